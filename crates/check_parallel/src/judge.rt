@@ -1,10 +1,9 @@
 //! The rules in their order, by parts that are judged beside each other.
 
-ghost use Rattle.std.specs.Prelude.{◌≡◌, ◌≤◌, IfErr, OnOk};
+ghost use Rattle.std.specs.Prelude.{◌≤◌};
 ghost use Rattle.std.specs.Thread.{IsSync};
 ghost use Rattle.cycle_history.specs.Before.{IsLimited};
-ghost use Rattle.report_check.specs.declared.fault.CheckFault.TheVariants.{NoMemory as OutOfMemory};
-ghost use Rattle.report_check.specs.Fault.{IsFault, MeetsChecked};
+ghost use Rattle.report_check.specs.Fault.{IsJudgedByRules};
 ghost use Rattle.report_check.specs.Known.{AreKnownItems};
 ghost use Rattle.report_check.specs.Lasts.{AreLasts};
 ghost use Rattle.check_parallel.specs.Parts.{IsClosingJudged, IsEarlyJudged, IsInsideJudged, IsLived, IsMissesJudged};
@@ -34,26 +33,7 @@ pub fn check_parallel<R: Threads + Sync>(
     requires limited { IsLimited trace.now }
     requires some { 1 ≤ pieces }
     requires few { pieces ≤ 64 }
-    ensures met { OnOk result (MeetsChecked trace.now report.now) }
-    ensures broken { IfErr result (IsFault trace.now report.now) }
-    ensures sound { MeetsChecked trace.now report.now → IfErr result (λ fault. fault ≡ OutOfMemory) }
-{
-    judge_rules(rt, alloc, trace, report, pieces)
-}
-
-// The nine rules.
-fn judge_rules<R: Threads + Sync>(
-    rt: &R,
-    alloc: Global,
-    trace: &Trace,
-    report: &Report,
-    pieces: u32,
-) -> Result<(), CheckFault>
-    requires limited { IsLimited trace.now }
-    requires some { 1 ≤ pieces }
-    requires few { pieces ≤ 64 }
-    ensures met { OnOk result (MeetsChecked trace.now report.now) }
-    ensures broken { IfErr result (IsFault trace.now report.now) }
+    ensures { IsJudgedByRules trace.now report.now result }
 {
     let settled = settle(rt, alloc, trace, report, pieces)?;
     judge_settled(
@@ -88,8 +68,7 @@ fn judge_settled<R: Threads + Sync>(
     requires few { pieces ≤ 64 }
 
     // the verdict
-    ensures met { OnOk result (MeetsChecked trace.now report.now) }
-    ensures broken { IfErr result (IsFault trace.now report.now) }
+    ensures { IsJudgedByRules trace.now report.now result }
 {
     let (early, closing) = judge_beside(rt, alloc, trace, report, items, lasts, lived, pieces);
     early?;

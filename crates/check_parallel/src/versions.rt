@@ -1,9 +1,8 @@
 //! The rules of a trace of any version.
 
-ghost use Rattle.std.specs.Prelude.{◌≡◌, ◌≤◌, IfErr, OnOk};
+ghost use Rattle.std.specs.Prelude.{◌≤◌};
 ghost use Rattle.cycle_history.specs.Before.{IsLimited};
-ghost use Rattle.report_check.specs.declared.fault.CheckFault.TheVariants.{NoMemory as OutOfMemory};
-ghost use Rattle.report_check.specs.Versions.{IsVersionFault, IsFaultTiny, MeetsTiny, MeetsVersion};
+ghost use Rattle.report_check.specs.Versions.{IsJudgedByVersion, IsJudgedTiny};
 
 use crate::judge::check_parallel;
 use cycle_history::{Report, TINY_VERSION};
@@ -26,32 +25,12 @@ pub fn check_version_parallel<R: Threads + Sync>(
     requires limited { IsLimited trace.now }
     requires some { 1 ≤ pieces }
     requires few { pieces ≤ 64 }
-    ensures met { OnOk result (MeetsVersion trace.now report.now) }
-    ensures broken { IfErr result (IsVersionFault trace.now report.now) }
-    ensures sound { MeetsVersion trace.now report.now → IfErr result (λ fault. fault ≡ OutOfMemory) }
-{
-    judge_version(rt, alloc, trace, report, pieces)
-}
-
-// The rules of the trace's version.
-fn judge_version<R: Threads + Sync>(
-    rt: &R,
-    alloc: Global,
-    trace: &Trace,
-    report: &Report,
-    pieces: u32,
-) -> Result<(), CheckFault>
-    requires limited { IsLimited trace.now }
-    requires some { 1 ≤ pieces }
-    requires few { pieces ≤ 64 }
-    ensures met { OnOk result (MeetsVersion trace.now report.now) }
-    ensures broken { IfErr result (IsVersionFault trace.now report.now) }
+    ensures { IsJudgedByVersion trace.now report.now result }
 {
     if trace.header.version < TINY_VERSION {
-        check_parallel(rt, alloc, trace, report, pieces)
-    } else {
-        judge_tiny(rt, alloc, trace, report, pieces)
+        return check_parallel(rt, alloc, trace, report, pieces);
     }
+    judge_tiny(rt, alloc, trace, report, pieces)
 }
 
 // The ten rules.
@@ -65,8 +44,7 @@ fn judge_tiny<R: Threads + Sync>(
     requires limited { IsLimited trace.now }
     requires some { 1 ≤ pieces }
     requires few { pieces ≤ 64 }
-    ensures met { OnOk result (MeetsTiny trace.now report.now) }
-    ensures broken { IfErr result (IsFaultTiny trace.now report.now) }
+    ensures { IsJudgedTiny trace.now report.now result }
 {
     let base = base_report(alloc, trace, report)?;
     check_parallel(rt, alloc, &base.trace, &base.report, pieces)?;

@@ -1,6 +1,6 @@
 -- The answers of the judge of traces with tiny objects.
-use Rattle.std.specs.Prelude.{OnOk}
-use Rattle.std.proofs.Common.{◌≡◌, ◌≢◌, ℕ, ◌≤◌, List, length, Result, Ok, Err, refl, sym, ◌∙◌, ap, subst, arith, inl, inr}
+use Rattle.std.specs.Prelude.{IfErr, IsErrAnd, OnOk}
+use Rattle.std.proofs.Common.{◌≡◌, ◌≢◌, ℕ, ◌<◌, ◌≤◌, List, length, Result, Ok, Err, refl, sym, ◌∙◌, ap, subst, arith, inl, inr}
 use Rattle.std.proofs.lemmas.Bool.{cases_lt}
 use Rattle.trace_reader.specs.declared.trace.Trace.{Trace}
 use Rattle.cycle_history.specs.declared.Answer.{Answer}
@@ -10,9 +10,9 @@ use Rattle.report_check.specs.Broken.{IsBroken}
 use Rattle.report_check.proofs.Exact.{first-broken}
 use Rattle.report_check.specs.declared.fault.CheckFault.{CheckFault}
 use Rattle.report_check.specs.declared.fault.CheckFault.TheVariants.{Broken, NoMemory}
-use Rattle.report_check.specs.Fault.{IsFault, IsFaultOf, MeetsChecked}
+use Rattle.report_check.specs.Fault.{IsFault, IsFaultOf, IsJudgedByRules, MeetsChecked}
 use Rattle.report_check.proofs.Faults.{fault-1}
-use Rattle.report_check.proofs.Sounding.{never-refused, sound-meets}
+use Rattle.report_check.proofs.Sounding.{handed-on, judged, rules-unbroken, sound-meets}
 use Rattle.tiny_alloc.specs.declared.base.Based.{Based}
 use Rattle.tiny_alloc.specs.declared.part.Rider.{Rider}
 use Rattle.tiny_alloc.specs.Riders.{part_at}
@@ -22,7 +22,7 @@ use Rattle.report_check.specs.declared.tiny.based.BaseReport.{BaseReport}
 use Rattle.cycle_history.specs.declared.versions.TheConstants.{TINY_VERSION}
 use Rattle.report_check.specs.Answered.{IsAnswered}
 use Rattle.report_check.specs.Based.{IsBaseReport}
-use Rattle.report_check.specs.Versions.{BreaksRiding, BreaksVersion, IsBrokenTiny, IsVersionFault, IsFaultTiny, MeetsTiny, MeetsVersion}
+use Rattle.report_check.specs.Versions.{BreaksRiding, BreaksVersion, IsBrokenTiny, IsFaultTiny, IsJudgedByVersion, IsJudgedTiny, MeetsTiny, MeetsVersion}
 use Rattle.report_check.proofs.OneBase.{base-one}
 use Rattle.report_check.proofs.Riding.{riding-unbroken}
 use Rattle.report_check.proofs.RuleOne.{base-answered, meets-answers}
@@ -112,12 +112,25 @@ on-map (Err e) to h = tt
 -- a report that meets the rules of its trace's version breaks none of them
 pub version-unbroken : (t : Trace) (report : Report) (rule line : ℕ) → MeetsVersion t report → ¬ BreaksVersion t report rule line
 version-unbroken t report rule line met broken = elim (cases_lt t.header.version TINY_VERSION) [
-  | inl lt ↦ told rule line (never-refused t report (Broken rule line) (broken.plain lt) (met.plain lt))
+  | inl lt ↦ rules-unbroken t report rule line (met.plain lt) (broken.plain lt)
   | inr le ↦ unbroken t report rule line (met.tiny le) (broken.tiny le)
-] where
-  told : (a b : ℕ) → Broken a b ≡ NoMemory → ⊥
-  told a b e = cc
+]
 
-pub never-told : (t : Trace) (report : Report) (fault : CheckFault) → IsVersionFault t report fault → MeetsVersion t report → fault ≡ NoMemory
-never-told t report (Broken rule line) is met = absurd (version-unbroken t report rule line met is)
-never-told t report NoMemory is met = refl
+-- of a trace without tiny objects the answer is that by the nine rules
+pub plain-judged : (t : Trace) (report : Report) (answer : Result (Unit {0}) CheckFault) → t.header.version < TINY_VERSION → IsJudgedByRules t report answer → IsJudgedByVersion t report answer
+plain-judged t report (Ok u) lt is = judged (MeetsVersion t report) (BreaksVersion t report) (version-unbroken t report) (Ok u) (record { plain = λ less. is.met; tiny = λ le. absurd (omega arith) }) tt
+plain-judged t report (Err (Broken rule line)) lt is = judged (MeetsVersion t report) (BreaksVersion t report) (version-unbroken t report) (Err (Broken rule line)) tt (record { plain = λ less. is.broken; tiny = λ le. absurd (omega arith) })
+plain-judged t report (Err NoMemory) lt is = judged (MeetsVersion t report) (BreaksVersion t report) (version-unbroken t report) (Err NoMemory) tt tt
+
+-- and of one with them that by the ten
+pub tiny-judged : (t : Trace) (report : Report) (answer : Result (Unit {0}) CheckFault) → TINY_VERSION ≤ t.header.version → IsJudgedTiny t report answer → IsJudgedByVersion t report answer
+tiny-judged t report (Ok u) le is = judged (MeetsVersion t report) (BreaksVersion t report) (version-unbroken t report) (Ok u) (record { plain = λ lt. absurd (omega arith); tiny = λ more. is.met }) tt
+tiny-judged t report (Err (Broken rule line)) le is = judged (MeetsVersion t report) (BreaksVersion t report) (version-unbroken t report) (Err (Broken rule line)) tt (record { plain = λ lt. absurd (omega arith); tiny = λ more. is.broken })
+tiny-judged t report (Err NoMemory) le is = judged (MeetsVersion t report) (BreaksVersion t report) (version-unbroken t report) (Err NoMemory) tt tt
+
+-- the answer of rule 10 is that by the ten rules, and so is a fault that is handed on
+pub riders-judged : (t : Trace) (report : Report) (answer : Result (Unit {0}) CheckFault) → OnOk answer (MeetsTiny t report) → IfErr answer (IsFaultTiny t report) → IsJudgedTiny t report answer
+riders-judged t report answer met broken = judged (MeetsTiny t report) (IsBrokenTiny t report) (unbroken t report) answer met broken
+
+pub tiny-handed-on : (t : Trace) (report : Report) (answer : Result (Unit {0}) CheckFault) (fault : CheckFault) → IsErrAnd answer (λ (e : CheckFault). e ≡ fault) → IsFaultTiny t report fault → IsJudgedTiny t report answer
+tiny-handed-on t report answer fault same is = handed-on (MeetsTiny t report) (IsBrokenTiny t report) (unbroken t report) answer fault same is

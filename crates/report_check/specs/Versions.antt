@@ -1,5 +1,5 @@
 -- Which of ten rules a report breaks first, and which of its lines is the first that breaks it.
-use Rattle.std.specs.Prelude.{◌≡◌, ℕ, ◌+◌, ◌<◌, ◌≤◌, List, Option, Some, None, ◌⊎◌}
+use Rattle.std.specs.Prelude.{◌≡◌, ℕ, ◌+◌, ◌<◌, ◌≤◌, List, Option, Some, None, ◌⊎◌, Result}
 use Rattle.std.specs.List.{slice_get}
 use Rattle.trace_reader.specs.declared.trace.Trace.{Trace}
 use Rattle.cycle_history.specs.declared.Answer.{Answer}
@@ -10,8 +10,7 @@ use Rattle.cycle_history.specs.Broken.{MeetsRules}
 use Rattle.report_check.specs.Lines.{answer_at, IsLeast}
 use Rattle.report_check.specs.Broken.{IsBroken}
 use Rattle.report_check.specs.declared.fault.CheckFault.{CheckFault}
-use Rattle.report_check.specs.declared.fault.CheckFault.TheVariants.{Broken, NoMemory}
-use Rattle.report_check.specs.Fault.{MeetsChecked}
+use Rattle.report_check.specs.Fault.{IsJudged, MeetsChecked, Names}
 use Rattle.cycle_history.specs.declared.versions.TheConstants.{TINY_VERSION}
 use Rattle.tiny_alloc.specs.declared.base.Based.{Based}
 use Rattle.tiny_alloc.specs.declared.part.Part.TheVariants.{Ride}
@@ -69,12 +68,15 @@ IsBrokenTiny t report rule line = ((rule ≡ 1) × IsBroken t report 1 line) ⊎
 
 -- A refusal names that rule and that line, or says that memory ran out.
 abbrev pub IsFaultTiny : Trace → Report → CheckFault → Type 0
-IsFaultTiny t report (Broken rule line) = IsBrokenTiny t report rule line
-IsFaultTiny t report NoMemory = Unit {0}
+IsFaultTiny t report fault = Names (IsBrokenTiny t report) fault
 
 -- A report of a trace with tiny objects is sound, by its base and some objects of the base with their seats.
 abbrev pub MeetsTiny : Trace → Report → Type 0
 MeetsTiny t report = (based : Based) × (objects : List Object) × IsSoundTiny t report based objects
+
+-- The judge's answer by the ten rules.
+abbrev pub IsJudgedTiny : Trace → Report → Result (Unit {0}) CheckFault → Type 0
+IsJudgedTiny t report answer = IsJudged (MeetsTiny t report) (IsBrokenTiny t report) answer
 
 -- A report meets the rules of its trace's version: a trace has tiny objects from version 3 on.
 pub record MeetsVersion (t : Trace) (report : Report) : Type 0 where
@@ -86,7 +88,6 @@ pub record BreaksVersion (t : Trace) (report : Report) (rule line : ℕ) : Type 
   pub plain : t.header.version < TINY_VERSION → IsBroken t report rule line
   pub tiny : TINY_VERSION ≤ t.header.version → IsBrokenTiny t report rule line
 
--- A refusal by the rules of its trace's version names that rule and that line, or says that memory ran out.
-abbrev pub IsVersionFault : Trace → Report → CheckFault → Type 0
-IsVersionFault t report (Broken rule line) = BreaksVersion t report rule line
-IsVersionFault t report NoMemory = Unit {0}
+-- The judge's answer by the rules of the trace's version.
+abbrev pub IsJudgedByVersion : Trace → Report → Result (Unit {0}) CheckFault → Type 0
+IsJudgedByVersion t report answer = IsJudged (MeetsVersion t report) (BreaksVersion t report) answer

@@ -1,11 +1,10 @@
 //! The rules in their order.
 
-ghost use Rattle.std.specs.Prelude.{◌≡◌, List as Things, IfErr, IfOk, OnOk};
+ghost use Rattle.std.specs.Prelude.{List as Things, IfErr, IfOk, OnOk};
 ghost use Rattle.cycle_history.specs.Broken.{MeetsUpTo};
 ghost use Rattle.cycle_history.specs.Before.{IsLimited};
 ghost use Rattle.cycle_history.specs.Objects.{Object};
-ghost use Rattle.report_check.specs.declared.fault.CheckFault.TheVariants.{NoMemory as OutOfMemory};
-ghost use Rattle.report_check.specs.Fault.{IsFault, IsUpTo, MeetsChecked};
+ghost use Rattle.report_check.specs.Fault.{IsFault, IsJudgedByRules, IsUpTo};
 ghost use Rattle.report_check.specs.Known.{AreSettledItems};
 
 use crate::CheckFault;
@@ -28,11 +27,10 @@ use trace_reader::Trace;
 /// pages of the region for each mark end; the profile's samples and lines cost a logarithm more.
 pub fn check(alloc: Global, trace: &Trace, report: &Report) -> Result<(), CheckFault>
     requires limited { IsLimited trace.now }
-    ensures met { OnOk result (MeetsChecked trace.now report.now) }
-    ensures broken { IfErr result (IsFault trace.now report.now) }
-    ensures sound { MeetsChecked trace.now report.now → IfErr result (λ fault. fault ≡ OutOfMemory) }
+    ensures { IsJudgedByRules trace.now report.now result }
 {
-    judge_rules(alloc, trace, report)
+    let items = settled(alloc, trace, report)?;
+    judge_settled(alloc, trace, report, &items)
 }
 
 /// Tries the rules 1 to 4 alone, on answers, the journal, misses and places: a report that breaks a later rule first isn't refused.
@@ -44,16 +42,6 @@ pub fn check_first_rules(alloc: Global, trace: &Trace, report: &Report) -> Resul
 {
     settled(alloc, trace, report)?;
     Ok(())
-}
-
-// The nine rules.
-fn judge_rules(alloc: Global, trace: &Trace, report: &Report) -> Result<(), CheckFault>
-    requires limited { IsLimited trace.now }
-    ensures met { OnOk result (MeetsChecked trace.now report.now) }
-    ensures broken { IfErr result (IsFault trace.now report.now) }
-{
-    let items = settled(alloc, trace, report)?;
-    judge_settled(alloc, trace, report, &items)
 }
 
 // The objects of the report in their seats, where it meets the rules 1 to 4.
@@ -79,8 +67,7 @@ fn judge_settled(
 ) -> Result<(), CheckFault>
     requires limited { IsLimited trace.now }
     requires settled { AreSettledItems trace.now report.now items.now }
-    ensures met { OnOk result (MeetsChecked trace.now report.now) }
-    ensures broken { IfErr result (IsFault trace.now report.now) }
+    ensures { IsJudgedByRules trace.now report.now result }
 {
     let lasts = lasts_of(alloc, trace)?;
     let objects = Objects {

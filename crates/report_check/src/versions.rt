@@ -1,9 +1,7 @@
 //! The rules of a trace's version.
 
-ghost use Rattle.std.specs.Prelude.{◌≡◌, IfErr, OnOk};
 ghost use Rattle.cycle_history.specs.Before.{IsLimited};
-ghost use Rattle.report_check.specs.declared.fault.CheckFault.TheVariants.{NoMemory as OutOfMemory};
-ghost use Rattle.report_check.specs.Versions.{IsVersionFault, IsFaultTiny, MeetsTiny, MeetsVersion};
+ghost use Rattle.report_check.specs.Versions.{IsJudgedByVersion, IsJudgedTiny};
 
 use crate::CheckFault;
 use crate::judge::check;
@@ -18,31 +16,18 @@ use trace_reader::Trace;
 /// For such a trace it takes the time of `check` on the base, and that of the base.
 pub fn check_version(alloc: Global, trace: &Trace, report: &Report) -> Result<(), CheckFault>
     requires limited { IsLimited trace.now }
-    ensures met { OnOk result (MeetsVersion trace.now report.now) }
-    ensures broken { IfErr result (IsVersionFault trace.now report.now) }
-    ensures sound { MeetsVersion trace.now report.now → IfErr result (λ fault. fault ≡ OutOfMemory) }
-{
-    judge_version(alloc, trace, report)
-}
-
-// The rules of the trace's version.
-fn judge_version(alloc: Global, trace: &Trace, report: &Report) -> Result<(), CheckFault>
-    requires limited { IsLimited trace.now }
-    ensures met { OnOk result (MeetsVersion trace.now report.now) }
-    ensures broken { IfErr result (IsVersionFault trace.now report.now) }
+    ensures { IsJudgedByVersion trace.now report.now result }
 {
     if trace.header.version < TINY_VERSION {
-        check(alloc, trace, report)
-    } else {
-        check_tiny(alloc, trace, report)
+        return check(alloc, trace, report);
     }
+    check_tiny(alloc, trace, report)
 }
 
 // The ten rules.
 fn check_tiny(alloc: Global, trace: &Trace, report: &Report) -> Result<(), CheckFault>
     requires limited { IsLimited trace.now }
-    ensures met { OnOk result (MeetsTiny trace.now report.now) }
-    ensures broken { IfErr result (IsFaultTiny trace.now report.now) }
+    ensures { IsJudgedTiny trace.now report.now result }
 {
     let base = base_report(alloc, trace, report)?;
     check(alloc, &base.trace, &base.report)?;

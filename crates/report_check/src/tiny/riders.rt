@@ -1,14 +1,13 @@
 //! Rule 10: the objects that ride in the blocks of others.
 
 ghost use Rattle.std.specs.Prelude.{◌≡◌, length, IfErr, MatchBool, OnOk};
-ghost use Rattle.report_check.specs.Fault.{IsFaultOf};
-ghost use Rattle.report_check.specs.Fault.{MeetsChecked};
+ghost use Rattle.report_check.specs.Fault.{IsFaultOf, MeetsChecked};
 ghost use Rattle.trace_reader.specs.declared.trace.Trace.{Trace as ATrace};
 ghost use Rattle.tiny_alloc.specs.Base.{riders_below};
 ghost use Rattle.tiny_alloc.specs.Riders.{part_at};
 ghost use Rattle.tiny_alloc.specs.Sound.{AreRiding};
 ghost use Rattle.report_check.specs.Based.{IsBaseReport};
-ghost use Rattle.report_check.specs.Versions.{BreaksRiding, IsFaultTiny, IsRidingAt, MeetsTiny, placed_at};
+ghost use Rattle.report_check.specs.Versions.{BreaksRiding, IsJudgedTiny, IsRidingAt, placed_at};
 
 use crate::CheckFault;
 use crate::tiny::based::BaseReport;
@@ -17,8 +16,7 @@ use tiny_alloc::Rider;
 
 /// Tries rule 10, the last one, where the base meets the other rules.
 pub fn judge_riders(report: &Report, base: &BaseReport) -> Result<(), CheckFault>
-    ensures met { (t : ATrace) → IsBaseReport t report.now base.now → MeetsChecked base.now.trace base.now.report → OnOk result (MeetsTiny t report.now) }
-    ensures broken { (t : ATrace) → IsBaseReport t report.now base.now → MeetsChecked base.now.trace base.now.report → IfErr result (IsFaultTiny t report.now) }
+    ensures { (t : ATrace) → IsBaseReport t report.now base.now → MeetsChecked base.now.trace base.now.report → IsJudgedTiny t report.now result }
 {
     judge_riding(report.answers.as_slice(), base.riders.as_slice())
 }

@@ -1,11 +1,5 @@
-use Rattle.report_check.specs.Fault.{IsFault}
-use Rattle.report_check.specs.declared.fault.CheckFault.{CheckFault}
-use Rattle.report_check.specs.declared.fault.CheckFault.TheVariants.{NoMemory}
-use Rattle.std.proofs.Common.{◌≡◌}
-use Rattle.report_check.proofs.Faults.{err-map}
-use Rattle.report_check.proofs.Sounding.{never-refused}
+use Rattle.report_check.proofs.Sounding.{rules-handed-on}
 use Rattle.check_parallel.proofs.judge.check_parallel.Goals as goal
 
-pub returns-clause-sound : goal.returns-clause-sound
-returns-clause-sound g c met =
-    err-map c.judge_rules.result (IsFault c.args.trace.now c.args.report.now) (λ (fault : CheckFault). fault ≡ NoMemory) (λ (fault : CheckFault) is. never-refused c.args.trace.now c.args.report.now fault is met) c.judge_rules.ensures.broken
+pub returns-in_err-settled : goal.returns-in_err-settled
+returns-in_err-settled g c = rules-handed-on c.args.trace.now c.args.report.now c.from_residual.result c.in_err-settled.field-0.0 c.from_residual.ensures.1 c.in_err-settled.ensures.broken

@@ -3,13 +3,19 @@ use Rattle.trace_reader.specs.declared.trace.Trace.{Trace}
 use Rattle.cycle_history.specs.declared.Report.{Report}
 use Rattle.report_check.specs.declared.fault.CheckFault.{CheckFault}
 use Rattle.report_check.specs.declared.items.Item.{Item}
-use Rattle.report_check.specs.Fault.{IsFault}
+use Rattle.report_check.specs.Fault.{IsFault, MeetsChecked}
 use Rattle.report_check.specs.Items.{objects_of}
-use Rattle.report_check.proofs.Faults.{err-from, fault-3, fault-5, fault-6, fault-7, fault-8, fault-9}
-use Rattle.check_parallel.specs.Parts.{FaultOfCounted, FaultOfInside, FaultOfMisses, FaultOfSweeps, MeetsInside, MeetsMisses, MeetsSweeps, FailsInTurn}
+use Rattle.report_check.proofs.Faults.{fault-3, fault-5, fault-6, fault-7, fault-8, fault-9, meets-9}
+use Rattle.report_check.proofs.Sounding.{rules-handed-on, rules-judged}
+use Rattle.check_parallel.specs.Parts.{FaultOfCounted, FaultOfInside, FaultOfMisses, FaultOfSweeps, MeetsCounted, MeetsInside, MeetsMisses, MeetsSweeps, FailsInTurn}
 use Rattle.check_parallel.specs.Seating.{AreSeatedItems}
-use Rattle.check_parallel.proofs.Answering.{err-map, if-err, when-ok}
+use Rattle.check_parallel.proofs.Answering.{err-map, if-err, ok-map, when-ok}
 use Rattle.check_parallel.proofs.judge.judge_settled.Goals as goal
+
+-- all nine rules
+all-met : (t : Trace) (report : Report) (items : List Item) → AreSeatedItems t report items → MeetsMisses report items → MeetsInside t items → MeetsSweeps t report items × MeetsCounted t report items → MeetsChecked t report
+all-met t report items s misses inside closing =
+    (objects_of items, meets-9 t report (objects_of items) s.answers s.journal misses s.places inside.0 inside.1 closing.0 closing.1.0 closing.1.1)
 
 -- a fault of the rules 3, 5 and 6
 early-fault : (t : Trace) (report : Report) (items : List Item) (fault : CheckFault) → AreSeatedItems t report items → FailsInTurn (FaultOfMisses report items) (MeetsMisses report items) (FaultOfInside t items) fault → IsFault t report fault
@@ -32,13 +38,19 @@ closing-fault t report items fault s misses inside is = elim is [
   ]
 ]
 
-pub returns-in_err-early-clause-broken : goal.returns-in_err-early-clause-broken
-returns-in_err-early-clause-broken g c =
-    err-from c.from_residual.result c.in_err-early.field-0.0 (IsFault c.args.trace.now c.args.report.now) c.from_residual.ensures.1
+pub returns-in_err-early : goal.returns-in_err-early
+returns-in_err-early g c =
+    rules-handed-on c.args.trace.now c.args.report.now c.from_residual.result c.in_err-early.field-0.0 c.from_residual.ensures.1
     (early-fault c.args.trace.now c.args.report.now c.args.items.now c.in_err-early.field-0.0 c.requires.settled
     (if-err c.judge_beside-early.result.0 c.in_err-early.field-0.0 _ c.in_err-early.was c.judge_beside-early.ensures.early.1))
 
-pub returns-clause-broken : goal.returns-clause-broken
-returns-clause-broken g c =
+pub returns : goal.returns
+returns g c =
+    let t = c.args.trace.now in
+    let report = c.args.report.now in
+    let items = c.args.items.now in
+    let s = c.requires.settled in
     let met = when-ok c.judge_beside-early.result.0 _ _ c.in_ok-early.was c.judge_beside-early.ensures.early.0 in
-    err-map c.judge_beside-early.result.1 _ _ (λ (fault : CheckFault) is. closing-fault c.args.trace.now c.args.report.now c.args.items.now fault c.requires.settled met.0 met.1 is) c.judge_beside-early.ensures.closing.1
+    rules-judged t report c.judge_beside-early.result.1
+    (ok-map c.judge_beside-early.result.1 _ _ (λ closing. all-met t report items s met.0 met.1 closing) c.judge_beside-early.ensures.closing.0)
+    (err-map c.judge_beside-early.result.1 _ _ (λ (fault : CheckFault) is. closing-fault t report items fault s met.0 met.1 is) c.judge_beside-early.ensures.closing.1)

@@ -1,12 +1,9 @@
-use Rattle.std.proofs.Common.{◌≡◌}
-use Rattle.report_check.specs.declared.fault.CheckFault.{CheckFault}
-use Rattle.report_check.specs.declared.fault.CheckFault.TheVariants.{NoMemory}
-use Rattle.report_check.proofs.Faults.{err-map}
-use Rattle.report_check.specs.Versions.{IsVersionFault}
-use Rattle.report_check.proofs.Judged.{never-told}
+use Rattle.std.proofs.Common.{arith}
+use Rattle.report_check.proofs.Judged.{plain-judged, tiny-judged}
 use Rattle.check_parallel.proofs.versions.check_version_parallel.Goals as goal
 
-pub returns-clause-sound : goal.returns-clause-sound
-returns-clause-sound g c met =
-    err-map c.judge_version.result (IsVersionFault c.args.trace.now c.args.report.now) (λ (fault : CheckFault). fault ≡ NoMemory)
-    (λ (fault : CheckFault) is. never-told c.args.trace.now c.args.report.now fault is met) c.judge_version.ensures.broken
+pub returns-then-trace-lt-TINY_VERSION : goal.returns-then-trace-lt-TINY_VERSION
+returns-then-trace-lt-TINY_VERSION g c = plain-judged c.args.trace.now c.args.report.now c.check_parallel.result (omega arith) c.check_parallel.ensures
+
+pub returns : goal.returns
+returns g c = tiny-judged c.args.trace.now c.args.report.now c.judge_tiny.result (omega arith) c.judge_tiny.ensures

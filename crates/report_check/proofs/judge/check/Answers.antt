@@ -1,10 +1,5 @@
-use Rattle.report_check.specs.Fault.{IsFault}
-use Rattle.report_check.specs.declared.fault.CheckFault.{CheckFault}
-use Rattle.report_check.specs.declared.fault.CheckFault.TheVariants.{NoMemory}
-use Rattle.std.proofs.Common.{◌≡◌}
-use Rattle.report_check.proofs.Faults.{err-map}
-use Rattle.report_check.proofs.Sounding.{never-refused}
+use Rattle.report_check.proofs.Sounding.{rules-handed-on}
 use Rattle.report_check.proofs.judge.check.Goals as goal
 
-pub returns-clause-sound : goal.returns-clause-sound
-returns-clause-sound c met = err-map c.judge_rules.result (IsFault c.args.trace.now c.args.report.now) (λ (fault : CheckFault). fault ≡ NoMemory) (λ (fault : CheckFault) is. never-refused c.args.trace.now c.args.report.now fault is met) c.judge_rules.ensures.broken
+pub returns-in_err-items : goal.returns-in_err-items
+returns-in_err-items c = rules-handed-on c.args.trace.now c.args.report.now c.from_residual.result c.in_err-items.field-0.0 c.from_residual.ensures.1 c.in_err-items.ensures.broken
