@@ -1,6 +1,6 @@
 //! Judging a report that stands behind its trace.
 
-ghost use Rattle.std.specs.Prelude.{◌≡◌, ◌≤◌, ◌⊎◌, IfErr, OnOk};
+ghost use Rattle.std.specs.Prelude.{◌≡◌, ◌⊎◌, IfErr, OnOk};
 ghost use Rattle.std.specs.Io.KnownBytes.{Appends};
 ghost use Rattle.edge_io.specs.Causes.{Rose};
 ghost use Rattle.edge_io.specs.Front.{AppendsFront};
@@ -15,7 +15,7 @@ use check_parallel::check_version_parallel;
 use commands::{Judge, Stop, Verdict, check_input, read_pair, refuse_pair, stop_writing};
 use cycle_history::Report;
 use edge_io::{Sink, Source, write_all};
-use report_check::{CheckFault, check_version};
+use report_check::{CheckFault, Pieces, check_version};
 use std::alloc::Global;
 use std::thread::Threads;
 use trace_reader::Trace;
@@ -56,13 +56,11 @@ pub(crate) fn judge_report<S: Source, K: Sink, E: Sink>(
 pub(crate) fn judge_in_pieces<R: Threads + Sync, S: Source, K: Sink, E: Sink>(
     rt: &R,
     alloc: Global,
-    pieces: u32,
+    pieces: Pieces,
     input: &mut S,
     output: &mut K,
     errors: &mut E,
 ) -> u8
-    requires some { 1 ≤ pieces }
-    requires few { pieces ≤ 64 }
     ensures { Checked S.left S.faults K.held K.faults E.held E.faults input.old input.new output.old output.new errors.old errors.new result }
 {
     match check_in_pieces(rt, alloc, pieces, input) {
@@ -75,11 +73,9 @@ pub(crate) fn judge_in_pieces<R: Threads + Sync, S: Source, K: Sink, E: Sink>(
 fn check_in_pieces<R: Threads + Sync, S: Source>(
     rt: &R,
     alloc: Global,
-    pieces: u32,
+    pieces: Pieces,
     input: &mut S,
 ) -> Result<(), Stop>
-    requires some { 1 ≤ pieces }
-    requires few { pieces ≤ 64 }
     ensures sound { OnOk result (IsSound MeetsVersion (S.left input.old) (S.left input.new)) }
     ensures stopped { IfErr result (Stops BreaksVersion (S.left input.old) (S.left input.new)) }
     ensures broken_off { IfErr result (λ stop. IsReadFault stop → BreaksOff (S.left input.old) (S.left input.new)) }

@@ -25,6 +25,7 @@ use commands::{
 };
 use edge_io::{Gate, NoMemory, Sink, Source};
 use heap_run::{Options, run_trace};
+use report_check::Pieces;
 use report_text::write_report;
 use std::alloc::Global;
 use std::sync::Wait;
@@ -83,7 +84,7 @@ pub fn goheap<R: Threads + Wait + Sync, S: Source, K: Sink, E: Sink, G: Gate>(
         return run(rt, alloc, words, input, output, errors, gate);
     }
     if let Some(pieces) = pieces_of(words) {
-        return judge_in_pieces(rt, alloc, pieces, input, output, errors);
+        return judge_in_pieces(rt, alloc, Pieces { count: pieces }, input, output, errors);
     }
     if let Some(readers) = watchers_of(words) {
         return watch(rt, alloc, readers, input, output, errors, gate);

@@ -26,7 +26,7 @@ use Rattle.report_check.specs.Known.{AreKnownItems}
 use Rattle.report_check.specs.Pieces.{is_of, seen_by}
 use Rattle.report_check.proofs.Clearing.{seats-apart}
 use Rattle.report_check.proofs.Numbered.{item-of}
-use Rattle.report_check.proofs.Pieces.{object-seen, own-object}
+use Rattle.report_check.proofs.SeenPieces.{object-seen, own-object}
 use Rattle.report_check.proofs.Settled.{one-life}
 use Rattle.check_parallel.specs.declared.pieces.Verdict.{Verdict}
 use Rattle.check_parallel.specs.Parts.{AreVerdicts, IsApartJudged, IsFillingJudged}

@@ -1,12 +1,12 @@
 //! The pieces of the objects.
 
-ghost use Rattle.std.specs.Prelude.{◌≡◌, ◌≤◌, IfOk};
+ghost use Rattle.std.specs.Prelude.{◌≡◌, IfOk};
 ghost use Rattle.check_parallel.specs.Homes.{AreHomes, home_at};
 
 use cycle_history::Answer;
 use edge_io::NoMemory;
 use rayon::prelude::*;
-use report_check::Item;
+use report_check::{Item, Pieces};
 use std::alloc::Global;
 use std::thread::Threads;
 
@@ -18,18 +18,15 @@ pub(crate) fn homes_of<R: Threads + Sync>(
     rt: &R,
     alloc: Global,
     items: &[Item],
-    pieces: u32,
+    pieces: Pieces,
 ) -> Result<Vec<u8>, NoMemory>
-    requires some { 1 ≤ pieces }
-    requires few { pieces ≤ 64 }
-    ensures { IfOk result (λ homes. AreHomes pieces items.now homes.items) }
+    ensures { IfOk result (λ homes. AreHomes pieces.count items.now homes.items) }
 {
     let homes = items
         .par_iter()
         .map(
             |item: &Item| -> u8
-                requires { (1 ≤ pieces) × (pieces ≤ 64) }
-                ensures { result ≡ home_at pieces item.now }
+                ensures { result ≡ home_at pieces.count item.now }
             { home_of(item, pieces) },
         )
         .collect::<Vec<_>>(rt, alloc)?;
@@ -37,13 +34,11 @@ pub(crate) fn homes_of<R: Threads + Sync>(
 }
 
 // The number of the piece of an object.
-fn home_of(item: &Item, pieces: u32) -> u8
-    requires some { 1 ≤ pieces }
-    requires few { pieces ≤ 64 }
-    ensures { result ≡ home_at pieces item.now }
+fn home_of(item: &Item, pieces: Pieces) -> u8
+    ensures { result ≡ home_at pieces.count item.now }
 {
     match item.answer {
-        Answer::Placed(_) => (u32::from(item.class) / 2 % pieces) as u8,
+        Answer::Placed(_) => (u32::from(item.class) / 2 % pieces.count) as u8,
         _ => NOWHERE,
     }
 }

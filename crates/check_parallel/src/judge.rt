@@ -1,6 +1,5 @@
 //! The rules in their order, by parts that are judged beside each other.
 
-ghost use Rattle.std.specs.Prelude.{◌≤◌};
 ghost use Rattle.std.specs.Thread.{IsSync};
 ghost use Rattle.cycle_history.specs.Before.{IsLimited};
 ghost use Rattle.report_check.specs.Fault.{IsJudgedByRules};
@@ -13,7 +12,7 @@ use crate::closing::judge_closing;
 use crate::pieces::judge_inside;
 use crate::settled::{Lived, settle};
 use cycle_history::Report;
-use report_check::{CheckFault, Item, judge_misses};
+use report_check::{CheckFault, Item, Pieces, judge_misses};
 use std::alloc::Global;
 use std::thread::{Threads, join};
 use trace_reader::Trace;
@@ -28,14 +27,12 @@ pub fn check_parallel<R: Threads + Sync>(
     alloc: Global,
     trace: &Trace,
     report: &Report,
-    pieces: u32,
+    pieces: Pieces,
 ) -> Result<(), CheckFault>
     requires limited { IsLimited trace.now }
-    requires some { 1 ≤ pieces }
-    requires few { pieces ≤ 64 }
     ensures { IsJudgedByRules trace.now report.now result }
 {
-    let settled = settle(rt, alloc, trace, report, pieces)?;
+    let settled = settle(rt, alloc, trace, report, pieces.count)?;
     judge_settled(
         rt,
         alloc,
@@ -57,15 +54,13 @@ fn judge_settled<R: Threads + Sync>(
     items: &[Item],
     lasts: &[u32],
     lived: Lived,
-    pieces: u32,
+    pieces: Pieces,
 ) -> Result<(), CheckFault>
     // what is known of the objects and the lives, and how many pieces there may be
     requires limited { IsLimited trace.now }
     requires settled { AreSeatedItems trace.now report.now items.now }
     requires lasts { AreLasts trace.now items.now lasts.now }
     requires lived { IsLived trace.now report.now lived }
-    requires some { 1 ≤ pieces }
-    requires few { pieces ≤ 64 }
 
     // the verdict
     ensures { IsJudgedByRules trace.now report.now result }
@@ -84,19 +79,17 @@ fn judge_beside<R: Threads + Sync>(
     items: &[Item],
     lasts: &[u32],
     lived: Lived,
-    pieces: u32,
+    pieces: Pieces,
 ) -> (Result<(), CheckFault>, Result<(), CheckFault>)
     requires known { AreKnownItems trace.now report.now items.now lasts.now }
     requires lived { IsLived trace.now report.now lived }
-    requires some { 1 ≤ pieces }
-    requires few { pieces ≤ 64 }
     ensures early { IsEarlyJudged trace.now report.now items.now result.0 }
     ensures closing { IsClosingJudged trace.now report.now items.now result.1 }
 {
     join(
         rt,
         || -> Result<(), CheckFault>
-            requires { IsSync R.row × AreKnownItems trace.now report.now items.now lasts.now × (1 ≤ pieces) × (pieces ≤ 64) }
+            requires { IsSync R.row × AreKnownItems trace.now report.now items.now lasts.now }
             ensures { IsEarlyJudged trace.entry.now report.entry.now items.entry.now result }
         { judge_early(rt, alloc, trace, report, items, lasts, pieces) },
         || -> Result<(), CheckFault>
@@ -114,11 +107,9 @@ fn judge_early<R: Threads + Sync>(
     report: &Report,
     items: &[Item],
     lasts: &[u32],
-    pieces: u32,
+    pieces: Pieces,
 ) -> Result<(), CheckFault>
     requires known { AreKnownItems trace.now report.now items.now lasts.now }
-    requires some { 1 ≤ pieces }
-    requires few { pieces ≤ 64 }
     ensures { IsEarlyJudged trace.now report.now items.now result }
 {
     let (misses, inside) = join(
@@ -127,7 +118,7 @@ fn judge_early<R: Threads + Sync>(
             ensures { IsMissesJudged report.entry.now items.entry.now result }
         { judge_misses(alloc, report, items) },
         || -> Result<(), CheckFault>
-            requires { IsSync R.row × AreKnownItems trace.now report.now items.now lasts.now × (1 ≤ pieces) × (pieces ≤ 64) }
+            requires { IsSync R.row × AreKnownItems trace.now report.now items.now lasts.now }
             ensures { IsInsideJudged trace.entry.now items.entry.now result }
         { judge_inside(rt, alloc, trace, report, items, lasts, pieces) },
     );

@@ -14,7 +14,7 @@ use crate::least::{least_apart, least_filling};
 use cycle_history::Report;
 use edge_io::NoMemory;
 use rayon::prelude::*;
-use report_check::{CheckFault, Filling, Item, Objects, Piece, SPAN_CLASSES};
+use report_check::{CheckFault, Filling, Item, Objects, Piece, Pieces, SPAN_CLASSES};
 use std::alloc::Global;
 use std::thread::Threads;
 use trace_reader::Trace;
@@ -34,11 +34,9 @@ pub(crate) fn judge_inside<R: Threads + Sync>(
     report: &Report,
     items: &[Item],
     lasts: &[u32],
-    pieces: u32,
+    pieces: Pieces,
 ) -> Result<(), CheckFault>
     requires known { AreKnownItems trace.now report.now items.now lasts.now }
-    requires some { 1 ≤ pieces }
-    requires few { pieces ≤ 64 }
     ensures { IsInsideJudged trace.now items.now result }
 {
     let homes = homes_of(rt, alloc, items, pieces)?;
@@ -56,20 +54,21 @@ fn verdicts_of<R: Threads + Sync>(
     items: &[Item],
     lasts: &[u32],
     homes: &[u8],
-    pieces: u32,
+    pieces: Pieces,
 ) -> Result<Vec<Verdict>, NoMemory>
     requires known { AreKnownItems trace.now report.now items.now lasts.now }
-    requires homes { AreHomes pieces items.now homes.now }
-    ensures all { IfOk result (λ verdicts. length verdicts.items ≡ pieces) }
+    requires homes { AreHomes pieces.count items.now homes.now }
+    ensures all { IfOk result (λ verdicts. length verdicts.items ≡ pieces.count) }
     ensures each { IfOk result (λ verdicts. AreVerdicts trace.now items.now verdicts.items) }
 {
-    let verdicts = (0..pieces)
+    let count = pieces.count;
+    let verdicts = (0..count)
         .into_par_iter()
         .with_min_len(1)
         .map(
             |number: u32| -> Verdict
-                requires { AreKnownItems trace.now report.now items.now lasts.now × AreHomes pieces items.now homes.now }
-                ensures { IsVerdict trace.entry.now items.entry.now (record { number = number; count = pieces }) result }
+                requires { AreKnownItems trace.now report.now items.now lasts.now × AreHomes count items.now homes.now }
+                ensures { IsVerdict trace.entry.now items.entry.now (record { number = number; count = count }) result }
             {
                 verdict_of(
                     alloc,
@@ -78,10 +77,7 @@ fn verdicts_of<R: Threads + Sync>(
                     items,
                     lasts,
                     homes,
-                    Piece {
-                        number,
-                        count: pieces,
-                    },
+                    Piece { number, count },
                 )
             },
         )

@@ -1,12 +1,11 @@
 //! The rules of a trace of any version.
 
-ghost use Rattle.std.specs.Prelude.{◌≤◌};
 ghost use Rattle.cycle_history.specs.Before.{IsLimited};
 ghost use Rattle.report_check.specs.Versions.{IsJudgedByVersion, IsJudgedTiny};
 
 use crate::judge::check_parallel;
 use cycle_history::{Report, TINY_VERSION};
-use report_check::{CheckFault, base_report, judge_riders};
+use report_check::{CheckFault, Pieces, base_report, judge_riders};
 use std::alloc::Global;
 use std::thread::Threads;
 use trace_reader::Trace;
@@ -20,11 +19,9 @@ pub fn check_version_parallel<R: Threads + Sync>(
     alloc: Global,
     trace: &Trace,
     report: &Report,
-    pieces: u32,
+    pieces: Pieces,
 ) -> Result<(), CheckFault>
     requires limited { IsLimited trace.now }
-    requires some { 1 ≤ pieces }
-    requires few { pieces ≤ 64 }
     ensures { IsJudgedByVersion trace.now report.now result }
 {
     if trace.header.version < TINY_VERSION {
@@ -39,11 +36,9 @@ fn judge_tiny<R: Threads + Sync>(
     alloc: Global,
     trace: &Trace,
     report: &Report,
-    pieces: u32,
+    pieces: Pieces,
 ) -> Result<(), CheckFault>
     requires limited { IsLimited trace.now }
-    requires some { 1 ≤ pieces }
-    requires few { pieces ≤ 64 }
     ensures { IsJudgedTiny trace.now report.now result }
 {
     let base = base_report(alloc, trace, report)?;

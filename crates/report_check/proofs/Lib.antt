@@ -14,7 +14,7 @@ pub mod Begun
 pub mod Requests
 pub mod Answered
 pub mod Numbered
-pub mod Pieces
+pub mod SeenPieces
 pub mod Journals
 pub mod Missed
 pub mod Faults

@@ -1,11 +1,10 @@
 //! The judge in pieces beside the judge of the whole, with 1, 2, 3 and 64 pieces.
 
-ghost use Rattle.std.specs.Prelude.{◌≤◌};
 ghost use Rattle.cycle_history.specs.Before.{IsLimited};
 
 use check_parallel::check_parallel;
 use cycle_history::Report;
-use report_check::{CheckFault, check};
+use report_check::{CheckFault, Pieces, check};
 use std::process::Abort;
 use std::test::Fail;
 use std::thread::Threads;
@@ -20,10 +19,10 @@ pub(crate) fn agree<R: Abort + AllocGlobal + Threads + Sync>(
     requires { IsLimited trace.now }
 {
     let whole = check(rt.alloc(), trace, report);
-    agree_in(rt, trace, report, whole, 1)?;
-    agree_in(rt, trace, report, whole, 2)?;
-    agree_in(rt, trace, report, whole, 3)?;
-    agree_in(rt, trace, report, whole, 64)
+    agree_in(rt, trace, report, whole, Pieces { count: 1 })?;
+    agree_in(rt, trace, report, whole, Pieces { count: 2 })?;
+    agree_in(rt, trace, report, whole, Pieces { count: 3 })?;
+    agree_in(rt, trace, report, whole, Pieces { count: 64 })
 }
 
 fn agree_in<R: Abort + AllocGlobal + Threads + Sync>(
@@ -31,13 +30,12 @@ fn agree_in<R: Abort + AllocGlobal + Threads + Sync>(
     trace: &Trace,
     report: &Report,
     whole: Result<(), CheckFault>,
-    pieces: u32,
+    pieces: Pieces,
 ) -> Result<(), Fail>
     requires limited { IsLimited trace.now }
-    requires some { 1 ≤ pieces }
-    requires few { pieces ≤ 64 }
 {
     let found = check_parallel(rt, rt.alloc(), trace, report, pieces);
-    assert_eq!(rt; found, whole, "{pieces} pieces");
+    let count = pieces.count;
+    assert_eq!(rt; found, whole, "{count} pieces");
     Ok(())
 }

@@ -1,12 +1,11 @@
 //! Reports of traces with tiny objects, each with the rule and the line that it breaks first.
 
-ghost use Rattle.std.specs.Prelude.{◌≤◌};
 ghost use Rattle.cycle_history.specs.Before.{IsLimited};
 
 use crate::read::{report_of, trace_of};
 use check_parallel::check_version_parallel;
 use cycle_history::Report;
-use report_check::{CheckFault, check_version};
+use report_check::{CheckFault, Pieces, check_version};
 use std::process::Abort;
 use std::test::Fail;
 use std::thread::Threads;
@@ -21,14 +20,13 @@ fn agree_in<R: Abort + AllocGlobal + Threads + Sync>(
     trace: &Trace,
     report: &Report,
     whole: Result<(), CheckFault>,
-    pieces: u32,
+    pieces: Pieces,
 ) -> Result<(), Fail>
     requires limited { IsLimited trace.now }
-    requires some { 1 ≤ pieces }
-    requires few { pieces ≤ 64 }
 {
     let found = check_version_parallel(rt, rt.alloc(), trace, report, pieces);
-    assert_eq!(rt; found, whole, "{pieces} pieces");
+    let count = pieces.count;
+    assert_eq!(rt; found, whole, "{count} pieces");
     Ok(())
 }
 
@@ -54,10 +52,10 @@ fn judge<R: Abort + AllocGlobal + Threads + Sync>(
         broken,
         "{procs} processors, rate {rate}: row {number}"
     );
-    agree_in(rt, &trace, &report, whole, 1)?;
-    agree_in(rt, &trace, &report, whole, 2)?;
-    agree_in(rt, &trace, &report, whole, 3)?;
-    agree_in(rt, &trace, &report, whole, 64)
+    agree_in(rt, &trace, &report, whole, Pieces { count: 1 })?;
+    agree_in(rt, &trace, &report, whole, Pieces { count: 2 })?;
+    agree_in(rt, &trace, &report, whole, Pieces { count: 3 })?;
+    agree_in(rt, &trace, &report, whole, Pieces { count: 64 })
 }
 
 #[test]

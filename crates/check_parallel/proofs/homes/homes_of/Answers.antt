@@ -9,5 +9,5 @@ pub returns : goal.returns
 returns g c =
     let h = c.in_ok-homes.ensures in
     let chain = rw (c.map.ensures.base, c.map.ensures.f) at h.1 in
-    rw h.2 (housed-all c.args.pieces c.args.items.now h.0 c.requires.some c.requires.few
-    (slice-AllZip chain.0 c.args.items.now (chain.1 ∙ c.par_iter.ensures) (λ (x : Item) (y : ℕ). y ≡ home_at c.args.pieces x) h.0 chain.2))
+    rw h.2 (housed-all c.args.pieces.count c.args.items.now h.0 c.args.pieces.some c.args.pieces.few
+    (slice-AllZip chain.0 c.args.items.now (chain.1 ∙ c.par_iter.ensures) (λ (x : Item) (y : ℕ). y ≡ home_at c.args.pieces.count x) h.0 chain.2))

@@ -7,7 +7,7 @@ use Rattle.report_check.specs.Filling.{HasFillingRoom}
 use Rattle.report_check.specs.Pieces.{seen_by}
 use Rattle.report_check.proofs.Clearing.{clear-all, clear-more, clear-none, clear-other, placed-inside, placed-index, placed-place}
 use Rattle.report_check.proofs.Filled.{AreFilledTo, filled-all, filled-more, filled-none, filled-other, room-more}
-use Rattle.report_check.proofs.Pieces.{at-own, at-seen, known-seen, not-seen, report_of, seen-long}
+use Rattle.report_check.proofs.SeenPieces.{at-own, at-seen, known-seen, not-seen, report_of, seen-long}
 use Rattle.check_parallel.proofs.Housed.{seen-home}
 use Rattle.check_parallel.proofs.pieces.all_fit.Goals.{then-from-piece+then-sees+in_ok-takes+else-not-branch, then-from-piece+else-sees, else-from-piece}
 use Rattle.check_parallel.proofs.pieces.all_fit.Goals as goal

@@ -19,10 +19,10 @@ returns-clause-all g c =
     let ends = c.into_par_iter.ensures in
     let h = c.in_ok-verdicts.ensures in
     let chain = rw (c.map.ensures.base, c.map.ensures.f, c.with_min_len.ensures.base) at h.1 in
-    let whole : c.args.pieces - 0 ≡ c.args.pieces = omega arith in
+    let whole : c.args.pieces.count - 0 ≡ c.args.pieces.count = omega arith in
     let places = chain.1 ∙ (λ i. nat_range (ends.0 i) (ends.1 i)) ∙ ap (range_with_len 0) whole in
-    let P : ℕ → Verdict → Type 0 = λ k v. IsVerdict c.args.trace.now c.args.items.now (record { number = k; count = c.args.pieces }) v in
-    let are = ranged P 0 c.args.pieces h.0 (subst (λ (ks : List ℕ). AllZip P ks h.0) places chain.2) in
+    let P : ℕ → Verdict → Type 0 = λ k v. IsVerdict c.args.trace.now c.args.items.now (record { number = k; count = c.args.pieces.count }) v in
+    let are = ranged P 0 c.args.pieces.count h.0 (subst (λ (ks : List ℕ). AllZip P ks h.0) places chain.2) in
     ap (λ (vs : List Verdict). length vs) h.2 ∙ are.0
 
 pub returns-clause-each : goal.returns-clause-each
@@ -30,9 +30,9 @@ returns-clause-each g c =
     let ends = c.into_par_iter.ensures in
     let h = c.in_ok-verdicts.ensures in
     let chain = rw (c.map.ensures.base, c.map.ensures.f, c.with_min_len.ensures.base) at h.1 in
-    let whole : c.args.pieces - 0 ≡ c.args.pieces = omega arith in
+    let whole : c.args.pieces.count - 0 ≡ c.args.pieces.count = omega arith in
     let places = chain.1 ∙ (λ i. nat_range (ends.0 i) (ends.1 i)) ∙ ap (range_with_len 0) whole in
-    let P : ℕ → Verdict → Type 0 = λ k v. IsVerdict c.args.trace.now c.args.items.now (record { number = k; count = c.args.pieces }) v in
-    let are = ranged P 0 c.args.pieces h.0 (subst (λ (ks : List ℕ). AllZip P ks h.0) places chain.2) in
-    let count : length h.0 ≡ c.args.pieces = are.0 in
-    subst (λ (vs : List Verdict). AreVerdicts c.args.trace.now c.args.items.now vs) (sym h.2) (counted c.args.trace.now c.args.items.now h.0 c.args.pieces count are.1)
+    let P : ℕ → Verdict → Type 0 = λ k v. IsVerdict c.args.trace.now c.args.items.now (record { number = k; count = c.args.pieces.count }) v in
+    let are = ranged P 0 c.args.pieces.count h.0 (subst (λ (ks : List ℕ). AllZip P ks h.0) places chain.2) in
+    let count : length h.0 ≡ c.args.pieces.count = are.0 in
+    subst (λ (vs : List Verdict). AreVerdicts c.args.trace.now c.args.items.now vs) (sym h.2) (counted c.args.trace.now c.args.items.now h.0 c.args.pieces.count count are.1)

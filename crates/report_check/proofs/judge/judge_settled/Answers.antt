@@ -10,7 +10,7 @@ use Rattle.cycle_history.specs.Rules.{AreApart, AreFilled}
 use Rattle.report_check.specs.Placing.{BreaksApart, BreaksFilling}
 use Rattle.report_check.specs.declared.items.Item.{Item}
 use Rattle.report_check.specs.Pieces.{seen_by}
-use Rattle.report_check.proofs.Pieces.{seen-whole}
+use Rattle.report_check.proofs.SeenPieces.{seen-whole}
 use Rattle.report_check.proofs.Faults.{fault-5, fault-6, fault-7, fault-8, fault-9, meets-9, err-map}
 use Rattle.report_check.proofs.Sounding.{rules-handed-on, rules-judged}
 use Rattle.report_check.proofs.judge.judge_settled.Goals as goal

@@ -5,7 +5,7 @@ use Rattle.report_check.specs.Tops.{lives_of}
 use Rattle.report_check.specs.Known.{AreTops}
 use Rattle.report_check.specs.Pieces.{seen_by}
 use Rattle.report_check.proofs.Clearing.{tops-more, tops-other, clear-more, clear-other, clear-breaks, clear-all, placed-inside}
-use Rattle.report_check.proofs.Pieces.{at-own, at-seen, known-seen, not-seen, report_of, seen-long}
+use Rattle.report_check.proofs.SeenPieces.{at-own, at-seen, known-seen, not-seen, report_of, seen-long}
 use Rattle.report_check.proofs.objects.Objects.judge_apart.Goals.{then-sees+else-at-item+in_ok-raise, else-sees}
 use Rattle.report_check.proofs.objects.Objects.judge_apart.Goals as goal
 

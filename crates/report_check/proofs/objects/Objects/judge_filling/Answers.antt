@@ -5,7 +5,7 @@ use Rattle.report_check.specs.Filling.{HasFillingRoom}
 use Rattle.report_check.specs.Pieces.{seen_by}
 use Rattle.report_check.proofs.Clearing.{placed-inside, placed-index, placed-place}
 use Rattle.report_check.proofs.Filled.{AreFilledTo, room-more, filled-none, filled-more, filled-other, filled-fault, filled-all}
-use Rattle.report_check.proofs.Pieces.{at-own, at-seen, known-seen, not-seen, report_of, seen-long}
+use Rattle.report_check.proofs.SeenPieces.{at-own, at-seen, known-seen, not-seen, report_of, seen-long}
 use Rattle.report_check.proofs.objects.Objects.judge_filling.Goals.{then-sees+else-not-fits+in_ok-take_up, else-sees}
 use Rattle.report_check.proofs.objects.Objects.judge_filling.Goals as goal
 
