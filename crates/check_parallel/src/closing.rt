@@ -9,8 +9,7 @@ ghost use Rattle.report_check.specs.Known.{AreKnownItems};
 ghost use Rattle.check_parallel.specs.Parts.{IsClosingJudged, IsCountedJudged, IsLived, IsNotesJudged, IsProfileJudged, IsSweepsJudged, IsTotalsJudged};
 
 use crate::settled::Lived;
-use cycle_history::Report;
-use report_check::{CheckFault, Item, Objects, judge_totals};
+use report_check::{CheckFault, Item, Objects, ReportView, judge_totals};
 use std::alloc::Global;
 use std::thread::{Threads, join};
 use trace_reader::Trace;
@@ -20,7 +19,7 @@ pub(crate) fn judge_closing<R: Threads + Sync>(
     rt: &R,
     alloc: Global,
     trace: &Trace,
-    report: &Report,
+    report: &ReportView,
     items: &[Item],
     lasts: &[u32],
     lived: Lived,
@@ -59,7 +58,7 @@ fn sweeps_of(lived: Lived, notes: Result<(), CheckFault>) -> Result<(), CheckFau
 fn judge_notes(
     alloc: Global,
     trace: &Trace,
-    report: &Report,
+    report: &ReportView,
     items: &[Item],
     lasts: &[u32],
 ) -> Result<(), CheckFault>
@@ -80,7 +79,7 @@ fn judge_counted<R: Threads + Sync>(
     rt: &R,
     alloc: Global,
     trace: &Trace,
-    report: &Report,
+    report: &ReportView,
     items: &[Item],
     lasts: &[u32],
 ) -> Result<(), CheckFault>
@@ -106,7 +105,7 @@ fn judge_counted<R: Threads + Sync>(
 fn totals_of(
     alloc: Global,
     trace: &Trace,
-    report: &Report,
+    report: &ReportView,
     _items: &[Item],
     _lasts: &[u32],
 ) -> Result<(), CheckFault>
@@ -120,7 +119,7 @@ fn totals_of(
 fn judge_profile(
     alloc: Global,
     trace: &Trace,
-    report: &Report,
+    report: &ReportView,
     items: &[Item],
     lasts: &[u32],
 ) -> Result<(), CheckFault>

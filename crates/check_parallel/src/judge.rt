@@ -12,7 +12,7 @@ use crate::closing::judge_closing;
 use crate::pieces::judge_inside;
 use crate::settled::{Lived, settle};
 use cycle_history::Report;
-use report_check::{CheckFault, Item, Pieces, judge_misses};
+use report_check::{CheckFault, Item, Pieces, ReportView, judge_misses};
 use std::alloc::Global;
 use std::thread::{Threads, join};
 use trace_reader::Trace;
@@ -27,6 +27,20 @@ pub fn check_parallel<R: Threads + Sync>(
     alloc: Global,
     trace: &Trace,
     report: &Report,
+    pieces: Pieces,
+) -> Result<(), CheckFault>
+    requires limited { IsLimited trace.now }
+    ensures { IsJudgedByRules trace.now report.now result }
+{
+    judge_rules(rt, alloc, trace, &ReportView::of(report), pieces)
+}
+
+/// The same, of a report whose answers may be others than it prints.
+pub(crate) fn judge_rules<R: Threads + Sync>(
+    rt: &R,
+    alloc: Global,
+    trace: &Trace,
+    report: &ReportView,
     pieces: Pieces,
 ) -> Result<(), CheckFault>
     requires limited { IsLimited trace.now }
@@ -50,7 +64,7 @@ fn judge_settled<R: Threads + Sync>(
     rt: &R,
     alloc: Global,
     trace: &Trace,
-    report: &Report,
+    report: &ReportView,
     items: &[Item],
     lasts: &[u32],
     lived: Lived,
@@ -75,7 +89,7 @@ fn judge_beside<R: Threads + Sync>(
     rt: &R,
     alloc: Global,
     trace: &Trace,
-    report: &Report,
+    report: &ReportView,
     items: &[Item],
     lasts: &[u32],
     lived: Lived,
@@ -104,7 +118,7 @@ fn judge_early<R: Threads + Sync>(
     rt: &R,
     alloc: Global,
     trace: &Trace,
-    report: &Report,
+    report: &ReportView,
     items: &[Item],
     lasts: &[u32],
     pieces: Pieces,

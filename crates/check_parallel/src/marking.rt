@@ -4,9 +4,9 @@ ghost use Rattle.std.specs.Prelude.{◌≡◌, ◌≤◌, true, IfOk};
 ghost use Rattle.std.specs.Thread.{IsSync};
 ghost use Rattle.check_parallel.specs.Seating.{KeepsIn, MayKeep};
 
-use cycle_history::{Report, spans_at};
+use cycle_history::spans_at;
 use edge_io::NoMemory;
-use report_check::{Item, Opened, first_lost};
+use report_check::{Item, Opened, ReportView, first_lost};
 use std::alloc::Global;
 use std::thread::{Threads, join};
 use trace_reader::Trace;
@@ -18,7 +18,7 @@ pub(crate) fn keep_lives<R: Threads + Sync>(
     rt: &R,
     alloc: Global,
     trace: &Trace,
-    report: &Report,
+    report: &ReportView,
     items: &[Item],
     low: u32,
     high: u32,
@@ -51,7 +51,7 @@ pub(crate) fn keep_lives<R: Threads + Sync>(
 fn keep_lives_in(
     alloc: Global,
     trace: &Trace,
-    report: &Report,
+    report: &ReportView,
     items: &[Item],
     low: u32,
     high: u32,

@@ -11,10 +11,9 @@ ghost use Rattle.check_parallel.specs.Parts.{AreVerdicts, IsInsideJudged, IsVerd
 
 use crate::homes::homes_of;
 use crate::least::{least_apart, least_filling};
-use cycle_history::Report;
 use edge_io::NoMemory;
 use rayon::prelude::*;
-use report_check::{CheckFault, Filling, Item, Objects, Piece, Pieces, SPAN_CLASSES};
+use report_check::{CheckFault, Filling, Item, Objects, Piece, Pieces, ReportView, SPAN_CLASSES};
 use std::alloc::Global;
 use std::thread::Threads;
 use trace_reader::Trace;
@@ -31,7 +30,7 @@ pub(crate) fn judge_inside<R: Threads + Sync>(
     rt: &R,
     alloc: Global,
     trace: &Trace,
-    report: &Report,
+    report: &ReportView,
     items: &[Item],
     lasts: &[u32],
     pieces: Pieces,
@@ -50,7 +49,7 @@ fn verdicts_of<R: Threads + Sync>(
     rt: &R,
     alloc: Global,
     trace: &Trace,
-    report: &Report,
+    report: &ReportView,
     items: &[Item],
     lasts: &[u32],
     homes: &[u8],
@@ -89,7 +88,7 @@ fn verdicts_of<R: Threads + Sync>(
 fn verdict_of(
     alloc: Global,
     trace: &Trace,
-    report: &Report,
+    report: &ReportView,
     items: &[Item],
     lasts: &[u32],
     homes: &[u8],
@@ -121,7 +120,7 @@ fn verdict_of(
 fn all_fit(
     alloc: Global,
     trace: &Trace,
-    report: &Report,
+    report: &ReportView,
     items: &[Item],
     lasts: &[u32],
     homes: &[u8],
@@ -132,7 +131,7 @@ fn all_fit(
     ensures { IfOk result (λ fit. fit ≡ true → MeetsInside trace.now (seen_by piece items.now)) }
 {
     let places = trace.header.procs as usize * SPAN_CLASSES;
-    let mut filling = Filling::new(alloc, report.journal.len(), places)?;
+    let mut filling = Filling::new(alloc, report.journal().len(), places)?;
     for number in 0..items.len() {
         if u32::from(homes[number]) == piece.number {
             let item = items[number];

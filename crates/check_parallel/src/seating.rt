@@ -11,9 +11,9 @@ ghost use Rattle.report_check.specs.Seats.{HasOne};
 ghost use Rattle.check_parallel.specs.Seating.{ArePartSeated, AreSeatedItems, IsItemsPart};
 
 use crate::marking::keep_lives;
-use cycle_history::{Answer, Report};
+use cycle_history::Answer;
 use edge_io::NoMemory;
-use report_check::{Asked, Item, OpenLife, Opened, is_right, seat_of};
+use report_check::{Asked, Item, OpenLife, Opened, ReportView, is_right, seat_of};
 use std::alloc::Global;
 use std::thread::{Threads, join_mut};
 use trace_reader::Trace;
@@ -24,7 +24,7 @@ pub(crate) fn seated_items<R: Threads + Sync>(
     rt: &R,
     alloc: Global,
     trace: &Trace,
-    report: &Report,
+    report: &ReportView,
     asked: &[Asked],
     items: &mut [Item],
     pieces: u32,
@@ -38,7 +38,7 @@ pub(crate) fn seated_items<R: Threads + Sync>(
     if asked.len() != items.len() {
         return Ok(false);
     }
-    let answers = report.answers.as_slice();
+    let answers = report.answers();
     if !seat_parts(rt, alloc, trace, report, asked, answers, items, pieces)? {
         return Ok(false);
     }
@@ -52,7 +52,7 @@ fn seat_parts<R: Threads + Sync>(
     rt: &R,
     alloc: Global,
     trace: &Trace,
-    report: &Report,
+    report: &ReportView,
     asked: &[Asked],
     answers: &[Answer],
     items: &mut [Item],
@@ -101,7 +101,7 @@ fn seat_parts<R: Threads + Sync>(
 fn seat_part(
     alloc: Global,
     trace: &Trace,
-    report: &Report,
+    report: &ReportView,
     asked: &[Asked],
     answers: &[Answer],
     items: &mut [Item],

@@ -11,11 +11,11 @@ ghost use Rattle.check_parallel.specs.Parts.{AreLastsOf, IsLived, IsPagesJudged}
 ghost use Rattle.check_parallel.specs.Seating.{AreSeatedItems};
 
 use crate::seating::seated_items;
-use cycle_history::{Answer, Report};
+use cycle_history::Answer;
 use edge_io::{List, NoMemory};
 use report_check::{
-    Asked, CheckFault, Item, asked_of, items_of, judge_gives, judge_journal, judge_lives,
-    judge_misses, judge_places, lasts_of,
+    Asked, CheckFault, Item, ReportView, asked_of, items_of, judge_gives, judge_journal,
+    judge_lives, judge_misses, judge_places, lasts_of,
 };
 use std::alloc::Global;
 use std::thread::{Threads, join};
@@ -47,7 +47,7 @@ pub(crate) fn settle<R: Threads + Sync>(
     rt: &R,
     alloc: Global,
     trace: &Trace,
-    report: &Report,
+    report: &ReportView,
     pieces: u32,
 ) -> Result<Settled, CheckFault>
     requires limited { IsLimited trace.now }
@@ -71,7 +71,7 @@ pub(crate) fn settle<R: Threads + Sync>(
 fn lived_of(
     alloc: Global,
     trace: &Trace,
-    report: &Report,
+    report: &ReportView,
     lived: Result<Lived, CheckFault>,
 ) -> Result<Lived, CheckFault>
     requires limited { IsLimited trace.now }
@@ -91,7 +91,7 @@ fn seat<R: Threads + Sync>(
     rt: &R,
     alloc: Global,
     trace: &Trace,
-    report: &Report,
+    report: &ReportView,
     blank: Result<Vec<Item>, NoMemory>,
     asked: Result<List<Asked>, NoMemory>,
     pieces: u32,
@@ -121,7 +121,7 @@ fn seat<R: Threads + Sync>(
 }
 
 // The same, by the judges of the whole.
-fn seat_whole(alloc: Global, trace: &Trace, report: &Report) -> Result<Vec<Item>, CheckFault>
+fn seat_whole(alloc: Global, trace: &Trace, report: &ReportView) -> Result<Vec<Item>, CheckFault>
     requires limited { IsLimited trace.now }
     requires journal { HasJournal trace.now report.now }
     ensures settled { IfOk result (λ items. AreSeatedItems trace.now report.now items.items) }
@@ -138,7 +138,7 @@ fn prepared<R: Threads + Sync>(
     rt: &R,
     alloc: Global,
     trace: &Trace,
-    report: &Report,
+    report: &ReportView,
 ) -> (
     (Result<Vec<Item>, NoMemory>, Result<List<Asked>, NoMemory>),
     (Result<Lived, CheckFault>, Result<Vec<u32>, NoMemory>),
@@ -167,7 +167,7 @@ fn unwritten<R: Threads + Sync>(
     rt: &R,
     alloc: Global,
     trace: &Trace,
-    report: &Report,
+    report: &ReportView,
 ) -> (Result<Vec<Item>, NoMemory>, Result<List<Asked>, NoMemory>)
     requires limited { IsLimited trace.now }
     ensures blank { IfOk result.0 (λ blank. length blank.items ≡ length report.now.answers) }
@@ -177,7 +177,7 @@ fn unwritten<R: Threads + Sync>(
         rt,
         || -> Result<Vec<Item>, NoMemory>
             ensures { IfOk result (λ blank. length blank.items ≡ length report.entry.now.answers) }
-        { blank_items(alloc, report.answers.as_slice().len()) },
+        { blank_items(alloc, report.answers().len()) },
         || -> Result<List<Asked>, NoMemory>
             requires { IsLimited trace.now }
             ensures { IfOk result (AreRequests trace.entry.now) }
@@ -208,7 +208,7 @@ fn unanswered<R: Threads + Sync>(
     rt: &R,
     alloc: Global,
     trace: &Trace,
-    report: &Report,
+    report: &ReportView,
 ) -> (Result<Lived, CheckFault>, Result<Vec<u32>, NoMemory>)
     requires limited { IsLimited trace.now }
     ensures pages { IsPagesJudged trace.now report.now result.0 }
@@ -228,7 +228,7 @@ fn unanswered<R: Threads + Sync>(
 }
 
 // Rule 2, and where it is met, what the journal says of rule 7.
-fn judge_pages(alloc: Global, trace: &Trace, report: &Report) -> Result<Lived, CheckFault>
+fn judge_pages(alloc: Global, trace: &Trace, report: &ReportView) -> Result<Lived, CheckFault>
     requires limited { IsLimited trace.now }
     ensures { IsPagesJudged trace.now report.now result }
 {

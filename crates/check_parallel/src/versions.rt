@@ -3,9 +3,9 @@
 ghost use Rattle.cycle_history.specs.Before.{IsLimited};
 ghost use Rattle.report_check.specs.Versions.{IsJudgedByVersion, IsJudgedTiny};
 
-use crate::judge::check_parallel;
+use crate::judge::{check_parallel, judge_rules};
 use cycle_history::{Report, TINY_VERSION};
-use report_check::{CheckFault, Pieces, base_report, judge_riders};
+use report_check::{CheckFault, Pieces, ReportView, base_report, judge_riders};
 use std::alloc::Global;
 use std::thread::Threads;
 use trace_reader::Trace;
@@ -42,6 +42,7 @@ fn judge_tiny<R: Threads + Sync>(
     ensures { IsJudgedTiny trace.now report.now result }
 {
     let base = base_report(alloc, trace, report)?;
-    check_parallel(rt, alloc, &base.trace, &base.report, pieces)?;
+    let answered = ReportView::with_answers(report, &base.answers);
+    judge_rules(rt, alloc, &base.trace, &answered, pieces)?;
     judge_riders(report, &base)
 }

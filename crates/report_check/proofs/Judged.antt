@@ -20,7 +20,7 @@ use Rattle.tiny_alloc.specs.Base.{IsBase, riders_below}
 use Rattle.tiny_alloc.specs.Sound.{AreRiding, based_report}
 use Rattle.report_check.specs.declared.tiny.based.BaseReport.{BaseReport}
 use Rattle.cycle_history.specs.declared.versions.TheConstants.{TINY_VERSION}
-use Rattle.report_check.specs.Answered.{IsAnswered}
+use Rattle.report_check.specs.Answered.{IsAnswered, having_answers}
 use Rattle.report_check.specs.Based.{IsBaseReport}
 use Rattle.report_check.specs.Versions.{BreaksRiding, BreaksVersion, IsBrokenTiny, IsFaultTiny, IsJudgedByVersion, IsJudgedTiny, MeetsTiny, MeetsVersion}
 use Rattle.report_check.proofs.OneBase.{base-one}
@@ -83,17 +83,17 @@ unbroken t report rule line met broken =
 
 -- ---- the report that is judged by the base
 
-its-sound : (t : Trace) (report : Report) (base : BaseReport) (is : IsBaseReport t report base) → MeetsChecked base.trace base.report → MeetsChecked is.based.trace (based_report report is.based)
-its-sound t report base is met = subst (λ (u : Trace). MeetsChecked u (based_report report is.based)) is.trace (subst (λ (r : Report). MeetsChecked base.trace r) is.report_is met)
+its-sound : (t : Trace) (report : Report) (base : BaseReport) (is : IsBaseReport t report base) → MeetsChecked base.trace (having_answers report base.answers) → MeetsChecked is.based.trace (based_report report is.based)
+its-sound t report base is met = subst (λ (u : Trace). MeetsChecked u (based_report report is.based)) is.trace (subst (λ (answers : List Answer). MeetsChecked base.trace (having_answers report answers)) is.answers met)
 
-pub base-sound : (t : Trace) (report : Report) (base : BaseReport) → IsBaseReport t report base → MeetsChecked base.trace base.report → AreRiding t report.answers → MeetsTiny t report
+pub base-sound : (t : Trace) (report : Report) (base : BaseReport) → IsBaseReport t report base → MeetsChecked base.trace (having_answers report base.answers) → AreRiding t report.answers → MeetsTiny t report
 base-sound t report base is met riding = tiny-sound t report is.based is.answered is.is (its-sound t report base is met) riding
 
-pub base-broken : (t : Trace) (report : Report) (base : BaseReport) (fault : CheckFault) → IsBaseReport t report base → IsFault base.trace base.report fault → IsFaultTiny t report fault
+pub base-broken : (t : Trace) (report : Report) (base : BaseReport) (fault : CheckFault) → IsBaseReport t report base → IsFault base.trace (having_answers report base.answers) fault → IsFaultTiny t report fault
 base-broken t report base fault is broken = tiny-base t report is.based fault is.answered is.is
-    (subst (λ (u : Trace). IsFault u (based_report report is.based) fault) is.trace (subst (λ (r : Report). IsFault base.trace r fault) is.report_is broken))
+    (subst (λ (u : Trace). IsFault u (based_report report is.based) fault) is.trace (subst (λ (answers : List Answer). IsFault base.trace (having_answers report answers) fault) is.answers broken))
 
-pub base-riding : (t : Trace) (report : Report) (base : BaseReport) (fault : CheckFault) → IsBaseReport t report base → MeetsChecked base.trace base.report
+pub base-riding : (t : Trace) (report : Report) (base : BaseReport) (fault : CheckFault) → IsBaseReport t report base → MeetsChecked base.trace (having_answers report base.answers)
     → IsFaultOf 10 (BreaksRiding t report.answers) fault → IsFaultTiny t report fault
 base-riding t report base fault is met broken = tiny-10 t report is.based fault is.answered is.is (its-sound t report base is met) broken
 

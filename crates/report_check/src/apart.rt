@@ -25,7 +25,7 @@ impl Objects<'_> {
         ensures apart { OnOk result (AreApart (marked_by self.now.trace.now) (objects_of (seen_by piece self.now.items.now))) }
         ensures fault { IfErr result (IsFaultOf 5 (BreaksApart (marked_by self.now.trace.now) (objects_of (seen_by piece self.now.items.now)))) }
     {
-        let mut tops = Tops::new(alloc, self.report.journal.len())?;
+        let mut tops = Tops::new(alloc, self.report.journal().len())?;
         for number in 0..self.items.len() {
             let item = self.items[number];
             if piece.sees(&item) {

@@ -9,7 +9,7 @@ ghost use Rattle.report_check.specs.Lives.{AreLives};
 
 use crate::lives::{OpenLife, no_lives};
 use crate::places::take_up_to;
-use cycle_history::Report;
+use crate::view::ReportView;
 use edge_io::NoMemory;
 use size_classes::{CHUNK_PAGES, MAX_CHUNKS};
 use std::alloc::Global;
@@ -37,7 +37,7 @@ impl Opened {
     }
 
     /// Takes up the lines up to the end of a cycle.
-    pub fn take_up(&mut self, trace: &Trace, report: &Report, cycle: u32)
+    pub fn take_up(&mut self, trace: &Trace, report: &ReportView, cycle: u32)
         requires journal { HasJournal trace.now report.now }
         requires open { IsOpenTo trace.now report.now cycle self.old }
         ensures open { IsOpenTo trace.now report.now cycle self.new }

@@ -60,7 +60,7 @@ impl Objects<'_> {
         ensures fault { IfErr result (IsFaultOf 6 (BreaksFilling (marked_by self.now.trace.now) (objects_of (seen_by piece self.now.items.now)))) }
     {
         let places = self.trace.header.procs as usize * SPAN_CLASSES;
-        let mut filling = Filling::new(alloc, self.report.journal.len(), places)?;
+        let mut filling = Filling::new(alloc, self.report.journal().len(), places)?;
         for number in 0..self.items.len() {
             let item = self.items[number];
             if piece.sees(&item) {

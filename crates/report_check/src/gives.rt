@@ -14,7 +14,7 @@ ghost use Rattle.report_check.specs.Sweeping.{AllMayGive, CanGive};
 use crate::CheckFault;
 use crate::keys::Keys;
 use crate::lives::{OpenLife, no_lives, take_up};
-use cycle_history::Report;
+use crate::view::ReportView;
 use page_bitmap::Line;
 use size_classes::CHUNK_PAGES;
 use std::alloc::Global;
@@ -22,16 +22,16 @@ use trace_reader::Trace;
 
 /// Whether each Give is of a life of an earlier cycle whose sweep of this cycle prints that nothing was kept: rule 7, as far as
 /// the Gives tell it. No object is asked, so that the answer is the same whichever there are.
-pub fn judge_gives(alloc: Global, trace: &Trace, report: &Report) -> Result<(), CheckFault>
+pub fn judge_gives(alloc: Global, trace: &Trace, report: &ReportView) -> Result<(), CheckFault>
     requires limited { IsLimited trace.now }
     requires journal { HasJournal trace.now report.now }
     ensures gives { OnOk result (AllMayGive report.now) }
     ensures fault { IfErr result (λ fault. (objects : Things Object)
         → IsFaultOf 7 (BreaksSweeps (marked_by trace.now) (last_cycle trace.now) report.now objects) fault) }
 {
-    let keys = Keys::of(alloc, report.sweeps.as_slice(), true)?;
-    let answers = report.answers.as_slice().len() as u64;
-    let journal = report.journal.as_slice();
+    let keys = Keys::of(alloc, report.sweeps(), true)?;
+    let answers = report.answers().len() as u64;
+    let journal = report.journal();
     let mut lives = no_lives(alloc, CHUNK_PAGES as usize * trace.header.chunks as usize)?;
     for number in 0..journal.len() {
         let line = journal[number];

@@ -11,7 +11,8 @@ ghost use Rattle.report_check.specs.Items.{objects_of};
 use crate::CheckFault;
 use crate::asked::{Asked, asked_of};
 use crate::lines::end_of;
-use cycle_history::{Answer, Report};
+use crate::view::ReportView;
+use cycle_history::Answer;
 use edge_io::List;
 use size_classes::{Kind, PAGE_SIZE, class_of, slot_size, span_class, span_objects, span_pages};
 use std::alloc::Global;
@@ -82,13 +83,13 @@ impl Item {
 }
 
 /// The objects of a trace with their answers, which the report prints: rule 1.
-pub fn items_of(alloc: Global, trace: &Trace, report: &Report) -> Result<List<Item>, CheckFault>
+pub fn items_of(alloc: Global, trace: &Trace, report: &ReportView) -> Result<List<Item>, CheckFault>
     requires limited { IsLimited trace.now }
     ensures answers { IfOk result (λ items. HasAnswers trace.now report.now (objects_of items)) }
     ensures fault { IfErr result (IsFaultOf 1 (BreaksAnswers trace.now report.now)) }
 {
     let asked = asked_of(alloc, trace)?;
-    let answers = report.answers.as_slice();
+    let answers = report.answers();
     let mut items = List::new(alloc);
     for request in asked.as_slice() {
         let number = items.len();

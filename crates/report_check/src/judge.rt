@@ -16,6 +16,7 @@ use crate::objects::Objects;
 use crate::piece::Piece;
 use crate::places::judge_places;
 use crate::totals::judge_totals;
+use crate::view::ReportView;
 use cycle_history::Report;
 use std::alloc::Global;
 use trace_reader::Trace;
@@ -26,6 +27,18 @@ use trace_reader::Trace;
 /// It replays the journal over the pages, and takes time in the objects, the lines, the marks and the chunks, and in the
 /// pages of the region for each mark end; the profile's samples and lines cost a logarithm more.
 pub fn check(alloc: Global, trace: &Trace, report: &Report) -> Result<(), CheckFault>
+    requires limited { IsLimited trace.now }
+    ensures { IsJudgedByRules trace.now report.now result }
+{
+    judge_rules(alloc, trace, &ReportView::of(report))
+}
+
+/// The same, of a report whose answers may be others than it prints.
+pub(crate) fn judge_rules(
+    alloc: Global,
+    trace: &Trace,
+    report: &ReportView,
+) -> Result<(), CheckFault>
     requires limited { IsLimited trace.now }
     ensures { IsJudgedByRules trace.now report.now result }
 {
@@ -40,12 +53,12 @@ pub fn check_first_rules(alloc: Global, trace: &Trace, report: &Report) -> Resul
     ensures broken { IfErr result (IsFault trace.now report.now) }
     ensures early { IfErr result (IsUpTo 4) }
 {
-    settled(alloc, trace, report)?;
+    settled(alloc, trace, &ReportView::of(report))?;
     Ok(())
 }
 
 // The objects of the report in their seats, where it meets the rules 1 to 4.
-fn settled(alloc: Global, trace: &Trace, report: &Report) -> Result<Vec<Item>, CheckFault>
+fn settled(alloc: Global, trace: &Trace, report: &ReportView) -> Result<Vec<Item>, CheckFault>
     requires limited { IsLimited trace.now }
     ensures settled { IfOk result (λ items. AreSettledItems trace.now report.now items.items) }
     ensures broken { IfErr result (IsFault trace.now report.now) }
@@ -62,7 +75,7 @@ fn settled(alloc: Global, trace: &Trace, report: &Report) -> Result<Vec<Item>, C
 fn judge_settled(
     alloc: Global,
     trace: &Trace,
-    report: &Report,
+    report: &ReportView,
     items: &[Item],
 ) -> Result<(), CheckFault>
     requires limited { IsLimited trace.now }

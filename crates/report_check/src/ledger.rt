@@ -54,7 +54,7 @@ impl Ledger {
         requires known { AreKnownItems objects.now.trace.now objects.now.report.now objects.now.items.now objects.now.lasts.now }
         ensures { IfOk result (λ ledger. IsLedger objects.now.trace.now objects.now.report.now objects.now.items.now objects.now.lasts.now 0 (objects_before objects.now.trace.now 1) ledger) }
     {
-        let lives = objects.report.journal.len();
+        let lives = objects.report.journal().len();
         let mut alive = Vec::new(alloc);
         let mut used = vec![in alloc; 0; lives]?;
         let seen = objects.trace.cycles.as_slice()[0].events.len();

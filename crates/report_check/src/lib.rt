@@ -43,6 +43,7 @@ mod tops;
 mod totals;
 mod unswept;
 mod versions;
+mod view;
 
 pub use asked::{Asked, asked_of};
 pub use cycle_lives::Opened;
@@ -70,3 +71,4 @@ pub use tops::Tops;
 pub use totals::judge_totals;
 pub use unswept::judge_lives;
 pub use versions::check_version;
+pub use view::ReportView;

@@ -11,17 +11,18 @@ ghost use Rattle.report_check.specs.Items.{objects_of};
 
 use crate::CheckFault;
 use crate::items::Item;
-use cycle_history::{Answer, Report};
+use crate::view::ReportView;
+use cycle_history::Answer;
 use edge_io::NoMemory;
 use page_bitmap::Line;
 use std::alloc::Global;
 
 /// Whether each missed object names a Miss line of its kind that no other names: rule 3.
-pub fn judge_misses(alloc: Global, report: &Report, items: &[Item]) -> Result<(), CheckFault>
+pub fn judge_misses(alloc: Global, report: &ReportView, items: &[Item]) -> Result<(), CheckFault>
     ensures misses { OnOk result (AreMissed (past_in report.now) (objects_of items.now)) }
     ensures fault { IfErr result (IsFaultOf 3 (BreaksMisses (past_in report.now) (objects_of items.now))) }
 {
-    let journal = report.journal.as_slice();
+    let journal = report.journal();
     let mut named = unnamed(alloc, journal.len())?;
     let mut number = 0;
     for item in items {

@@ -19,7 +19,8 @@ use crate::CheckFault;
 use crate::items::Item;
 use crate::lives::{OpenLife, Seat, has_life, no_lives, seat_of, take_up};
 use crate::replay::cycle_of;
-use cycle_history::{Answer, Report, spans_at};
+use crate::view::ReportView;
+use cycle_history::{Answer, spans_at};
 use size_classes::CHUNK_PAGES;
 use std::alloc::Global;
 use trace_reader::{Span, Trace};
@@ -29,7 +30,7 @@ use trace_reader::{Span, Trace};
 pub fn judge_places(
     alloc: Global,
     trace: &Trace,
-    report: &Report,
+    report: &ReportView,
     items: &mut [Item],
 ) -> Result<(), CheckFault>
     requires limited { IsLimited trace.now }
@@ -63,7 +64,7 @@ pub fn judge_places(
 pub(crate) fn take_up_to(
     lives: &mut [Option<OpenLife>],
     trace: &Trace,
-    report: &Report,
+    report: &ReportView,
     next: usize,
     cycle: u32,
 ) -> usize
@@ -79,7 +80,7 @@ pub(crate) fn take_up_to(
     ensures end { past_of (take result report.now.journal) ≡ at_end cycle (past_in report.now) }
     ensures lives { AreLives (region_of trace.now) (past_of (take result report.now.journal)) lives.new }
 {
-    let journal = report.journal.as_slice();
+    let journal = report.journal();
     let mut next = next;
     while next < journal.len() && cycle_of(journal[next]) <= cycle {
         take_up(lives, next as u64, journal[next]);

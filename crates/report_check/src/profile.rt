@@ -62,7 +62,7 @@ impl Objects<'_> {
         requires known { AreKnownItems self.now.trace.now self.now.report.now self.now.items.now self.now.lasts.now }
         ensures { result ≡ is_of_each (last_cycle self.now.trace.now) self.now.report.now.profile }
     {
-        let lines = self.report.profile.as_slice();
+        let lines = self.report.profile();
         !lines.is_empty() && lines[0].mark < self.last_mark()
     }
 
@@ -71,10 +71,10 @@ impl Objects<'_> {
         requires place { place < 2 ^ 62 }
         ensures { result ≡ lines.profile_at self.now.report.now place }
     {
-        self.report.answers.as_slice().len() as u64
-            + self.report.journal.as_slice().len() as u64
-            + self.report.sweeps.as_slice().len() as u64
-            + self.report.totals.as_slice().len() as u64
+        self.report.answers().len() as u64
+            + self.report.journal().len() as u64
+            + self.report.sweeps().len() as u64
+            + self.report.totals().len() as u64
             + place as u64
             + 1
     }
@@ -87,7 +87,7 @@ impl Objects<'_> {
             (AreRightProfs (IsRightProf each (marked_by self.now.trace.now) (samples_by self.now.trace.now sampled.now) (last_cycle self.now.trace.now) (objects_of self.now.items.now)) self.now.report.now.profile (length self.now.report.now.profile))
             (IsFirstWrongProf (IsRightProf each (marked_by self.now.trace.now) (samples_by self.now.trace.now sampled.now) (last_cycle self.now.trace.now) (objects_of self.now.items.now)) self.now.report.now.profile) }
     {
-        let lines = self.report.profile.as_slice();
+        let lines = self.report.profile();
         for place in 0..lines.len() {
             if place > 0 && !comes_before(lines[place - 1], lines[place]) {
                 return Some(place);
@@ -142,7 +142,7 @@ impl Objects<'_> {
             (AllPrinted each (marked_by self.now.trace.now) (samples_by self.now.trace.now sampled.now) (last_cycle self.now.trace.now) (objects_of self.now.items.now) self.now.report.now.profile)
             (LacksLine each (marked_by self.now.trace.now) (samples_by self.now.trace.now sampled.now) (last_cycle self.now.trace.now) (objects_of self.now.items.now) self.now.report.now.profile)) }
     {
-        let printed = printed_of(alloc, self.report.profile.as_slice())?;
+        let printed = printed_of(alloc, self.report.profile())?;
         for number in 0..self.items.len() {
             if sampled.flags[number] && !self.is_printed(&printed, sampled, each, number) {
                 return Ok(false);

@@ -62,10 +62,7 @@ impl Objects<'_> {
         requires place { place < 2 ^ 62 }
         ensures { result ≡ lines.sweep_at self.now.report.now place }
     {
-        self.report.answers.as_slice().len() as u64
-            + self.report.journal.as_slice().len() as u64
-            + place as u64
-            + 1
+        self.report.answers().len() as u64 + self.report.journal().len() as u64 + place as u64 + 1
     }
 
     // The first sweep that isn't right, or is out of order.
@@ -74,7 +71,7 @@ impl Objects<'_> {
         ensures few { IfOk result (λ place. IfSome place (λ place. place < 2 ^ 62)) }
         ensures wrong { IfOk result (λ place. MatchOption place (AreRightTo self.now.trace.now self.now.report.now (objects_of self.now.items.now) (length self.now.report.now.sweeps)) (IsFirstWrong self.now.trace.now self.now.report.now (objects_of self.now.items.now))) }
     {
-        let sweeps = self.report.sweeps.as_slice();
+        let sweeps = self.report.sweeps();
         let end = in_order(sweeps);
         let mut place = 0;
         if is_of(sweeps, 0, end, 0) {

@@ -14,7 +14,8 @@ ghost use Rattle.report_check.specs.Totals.{AreFitting, HasAll, IsMisfit, LacksT
 
 use crate::CheckFault;
 use crate::lines::end_of;
-use cycle_history::{Report, Total, totals_of};
+use crate::view::ReportView;
+use cycle_history::{Total, totals_of};
 use std::alloc::Global;
 use trace_reader::Trace;
 
@@ -22,7 +23,7 @@ use trace_reader::Trace;
 ///
 /// The fault is that of the first total that isn't right, or is out of order; or of the line `end`, where all are right
 /// and a size class of a placed object has none. It takes time in the objects, the cycles and the last mark end's marks.
-pub fn judge_totals(alloc: Global, trace: &Trace, report: &Report) -> Result<(), CheckFault>
+pub fn judge_totals(alloc: Global, trace: &Trace, report: &ReportView) -> Result<(), CheckFault>
     requires limited { IsLimited trace.now }
     requires answers { (objects : Items Object) × HasAnswers trace.now report.now objects }
     ensures totals { OnOk result ((objects : Items Object) → HasAnswers trace.now report.now objects
@@ -30,8 +31,8 @@ pub fn judge_totals(alloc: Global, trace: &Trace, report: &Report) -> Result<(),
     ensures fault { IfErr result (λ fault. (objects : Items Object) → HasAnswers trace.now report.now objects
         → IsFaultOf 8 (BreaksTotals (marked_by trace.now) (last_cycle trace.now) report.now objects) fault) }
 {
-    let counted = totals_of(alloc, trace, &report.answers)?;
-    let printed = report.totals.as_slice();
+    let counted = totals_of(alloc, trace, report.answer_list())?;
+    let printed = report.totals();
     if let Some(place) = first_misfit(printed, counted.as_slice()) {
         let line = line_of(report, place);
         return Err(CheckFault::Broken { rule: 8, line });
@@ -44,13 +45,13 @@ pub fn judge_totals(alloc: Global, trace: &Trace, report: &Report) -> Result<(),
 }
 
 // The line of the total at this place.
-fn line_of(report: &Report, place: usize) -> u64
+fn line_of(report: &ReportView, place: usize) -> u64
     requires place { place < 2 ^ 62 }
     ensures { result ≡ lines.total_at report.now place }
 {
-    report.answers.as_slice().len() as u64
-        + report.journal.as_slice().len() as u64
-        + report.sweeps.as_slice().len() as u64
+    report.answers().len() as u64
+        + report.journal().len() as u64
+        + report.sweeps().len() as u64
         + place as u64
         + 1
 }

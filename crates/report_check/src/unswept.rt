@@ -17,7 +17,7 @@ use crate::cycle_lives::Opened;
 use crate::keys::Keys;
 use crate::lines::end_of;
 use crate::lives::OpenLife;
-use cycle_history::Report;
+use crate::view::ReportView;
 use edge_io::NoMemory;
 use size_classes::MAX_PAGES;
 use std::alloc::Global;
@@ -25,7 +25,7 @@ use trace_reader::Trace;
 
 /// Whether each life that a mark end finds alive has a sweep: rule 7, as far as the lives tell it. No object is asked, so that the
 /// answer is the same whichever there are. The fault is the first that breaks the rule where no Give does and no sweep.
-pub fn judge_lives(alloc: Global, trace: &Trace, report: &Report) -> Result<(), CheckFault>
+pub fn judge_lives(alloc: Global, trace: &Trace, report: &ReportView) -> Result<(), CheckFault>
     requires limited { IsLimited trace.now }
     requires journal { HasJournal trace.now report.now }
     ensures swept { OnOk result (AllSwept trace.now report.now) }
@@ -42,12 +42,12 @@ pub fn judge_lives(alloc: Global, trace: &Trace, report: &Report) -> Result<(), 
 }
 
 // Whether each life that a mark end finds alive has a sweep.
-fn all_swept(alloc: Global, trace: &Trace, report: &Report) -> Result<bool, NoMemory>
+fn all_swept(alloc: Global, trace: &Trace, report: &ReportView) -> Result<bool, NoMemory>
     requires limited { IsLimited trace.now }
     requires journal { HasJournal trace.now report.now }
     ensures { IfOk result (λ all. MatchBool all (AllSwept trace.now report.now) (LacksSweep trace.now report.now)) }
 {
-    let keys = Keys::of(alloc, report.sweeps.as_slice(), false)?;
+    let keys = Keys::of(alloc, report.sweeps(), false)?;
     let mut opened = Opened::new(alloc, trace)?;
     for cycle in 1..trace.cycles.len() as u32 {
         opened.take_up(trace, report, cycle - 1);

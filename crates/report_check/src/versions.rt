@@ -4,8 +4,9 @@ ghost use Rattle.cycle_history.specs.Before.{IsLimited};
 ghost use Rattle.report_check.specs.Versions.{IsJudgedByVersion, IsJudgedTiny};
 
 use crate::CheckFault;
-use crate::judge::check;
+use crate::judge::{check, judge_rules};
 use crate::tiny::{base_report, judge_riders};
+use crate::view::ReportView;
 use cycle_history::{Report, TINY_VERSION};
 use std::alloc::Global;
 use trace_reader::Trace;
@@ -30,6 +31,7 @@ fn check_tiny(alloc: Global, trace: &Trace, report: &Report) -> Result<(), Check
     ensures { IsJudgedTiny trace.now report.now result }
 {
     let base = base_report(alloc, trace, report)?;
-    check(alloc, &base.trace, &base.report)?;
+    let answered = ReportView::with_answers(report, &base.answers);
+    judge_rules(alloc, &base.trace, &answered)?;
     judge_riders(report, &base)
 }

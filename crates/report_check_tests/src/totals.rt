@@ -3,7 +3,7 @@
 use crate::text::{PLAIN, report_of, trace_of};
 use cycle_history::{Report, Total};
 use edge_io::List;
-use report_check::{CheckFault, check_first_rules, judge_totals};
+use report_check::{CheckFault, ReportView, check_first_rules, judge_totals};
 use span_state::SweepNote;
 use std::alloc::Global;
 use std::process::Abort;
@@ -50,7 +50,7 @@ fn judge<R: Abort + AllocGlobal>(rt: &R, number: usize, row: &Row) -> Result<(),
     if check_first_rules(alloc, &trace, &report).is_err() {
         return Err("the rules 1 to 4 are broken".into());
     }
-    let found = match judge_totals(alloc, &trace, &report) {
+    let found = match judge_totals(alloc, &trace, &ReportView::of(&report)) {
         Ok(()) => None,
         Err(CheckFault::Broken { line, .. }) => Some(line),
         Err(CheckFault::NoMemory) => return Err("no memory".into()),

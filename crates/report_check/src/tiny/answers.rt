@@ -10,11 +10,11 @@ ghost use Rattle.report_check.specs.Answered.{AreAnsweredTo, IsAnswered};
 use crate::CheckFault;
 use crate::items::is_right;
 use crate::lines::end_of;
-use cycle_history::Report;
+use crate::view::ReportView;
 use trace_reader::Trace;
 
 /// Whether a report has one answer for each object of the trace, zero exactly where its size is 0.
-pub(crate) fn judge_answers(trace: &Trace, report: &Report) -> Result<(), CheckFault>
+pub(crate) fn judge_answers(trace: &Trace, report: &ReportView) -> Result<(), CheckFault>
     requires limited { IsLimited (as_version_2 trace.now) }
     ensures answers { OnOk result (IsAnswered trace.now report.now) }
     ensures fault { IfErr result (IsFaultOf 1 (BreaksAnswers trace.now report.now)) }
@@ -25,7 +25,8 @@ pub(crate) fn judge_answers(trace: &Trace, report: &Report) -> Result<(), CheckF
         judge_cycle(trace, cycle, first, report)?;
         first += cycles[cycle].events.len();
     }
-    if first < report.answers.len() {
+    let answers = report.answers();
+    if first < answers.len() {
         let line = first as u64 + 1;
         return Err(CheckFault::Broken { rule: 1, line });
     }
@@ -33,7 +34,12 @@ pub(crate) fn judge_answers(trace: &Trace, report: &Report) -> Result<(), CheckF
 }
 
 // The same for the objects of a cycle, whose first has this number, where the answers before it are right.
-fn judge_cycle(trace: &Trace, cycle: usize, first: usize, report: &Report) -> Result<(), CheckFault>
+fn judge_cycle(
+    trace: &Trace,
+    cycle: usize,
+    first: usize,
+    report: &ReportView,
+) -> Result<(), CheckFault>
     requires limited { IsLimited (as_version_2 trace.now) }
     requires cycle { cycle < length trace.now.cycles }
     requires first { first ≡ objects_before trace.now cycle }
@@ -41,7 +47,7 @@ fn judge_cycle(trace: &Trace, cycle: usize, first: usize, report: &Report) -> Re
     ensures answers { OnOk result (AreAnsweredTo trace.now report.now (objects_before trace.now (cycle + 1))) }
     ensures fault { IfErr result (IsFaultOf 1 (BreaksAnswers trace.now report.now)) }
 {
-    let answers = report.answers.as_slice();
+    let answers = report.answers();
     let cycles = trace.cycles.as_slice();
     let events = cycles[cycle].events.as_slice();
     let mut number = first;

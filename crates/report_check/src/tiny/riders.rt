@@ -6,6 +6,7 @@ ghost use Rattle.trace_reader.specs.declared.trace.Trace.{Trace as ATrace};
 ghost use Rattle.tiny_alloc.specs.Base.{riders_below};
 ghost use Rattle.tiny_alloc.specs.Riders.{part_at};
 ghost use Rattle.tiny_alloc.specs.Sound.{AreRiding};
+ghost use Rattle.report_check.specs.Answered.{having_answers};
 ghost use Rattle.report_check.specs.Based.{IsBaseReport};
 ghost use Rattle.report_check.specs.Versions.{BreaksRiding, IsJudgedTiny, IsRidingAt, placed_at};
 
@@ -16,7 +17,7 @@ use tiny_alloc::Rider;
 
 /// Tries rule 10, the last one, where the base meets the other rules.
 pub fn judge_riders(report: &Report, base: &BaseReport) -> Result<(), CheckFault>
-    ensures { (t : ATrace) → IsBaseReport t report.now base.now → MeetsChecked base.now.trace base.now.report → IsJudgedTiny t report.now result }
+    ensures { (t : ATrace) → IsBaseReport t report.now base.now → MeetsChecked base.now.trace (having_answers report.now base.now.answers) → IsJudgedTiny t report.now result }
 {
     judge_riding(report.answers.as_slice(), base.riders.as_slice())
 }

@@ -1,5 +1,6 @@
-use Rattle.std.proofs.Common.{ℕ, ◌+◌, ◌*◌, get_or, length, sym, ◌∙◌, subst, arith}
+use Rattle.std.proofs.Common.{ℕ, ◌+◌, ◌*◌, List, get_or, length, sym, ◌∙◌, ap, subst, arith}
 use Rattle.std.proofs.lemmas.Option.{slice_get-get_or}
+use Rattle.page_bitmap.specs.declared.line.Line.{Line}
 use Rattle.cycle_history.specs.declared.Answer.TheVariants.{Zero}
 use Rattle.report_check.specs.declared.filling.Filling.{Filling}
 use Rattle.report_check.specs.declared.items.Item.{Item}
@@ -14,7 +15,7 @@ use Rattle.check_parallel.proofs.pieces.all_fit.Goals as goal
 
 pub loop-number-init : goal.loop-number-init
 loop-number-init c = record {
-  room = subst (λ (k : ℕ). HasFillingRoom c.in_ok-filling.filling k (c.args.trace.now.header.procs * 136)) c.len.ensures c.in_ok-filling.ensures.room;
+  room = subst (λ (k : ℕ). HasFillingRoom c.in_ok-filling.filling k (c.args.trace.now.header.procs * 136)) (ap (λ (ls : List Line). length ls) c.journal.ensures) c.in_ok-filling.ensures.room;
   filled = filled-none (seen_by c.args.piece c.args.items.now) c.args.lasts.now c.in_ok-filling.filling c.in_ok-filling.ensures.empty;
   clear = clear-none (seen_by c.args.piece c.args.items.now) c.args.lasts.now;
 }

@@ -4,10 +4,10 @@ use Rattle.check_parallel.proofs.versions.judge_tiny.Goals as goal
 pub returns-in_err-base : goal.returns-in_err-base
 returns-in_err-base g c = tiny-handed-on c.args.trace.now c.args.report.now c.from_residual.result c.in_err-base.field-0.0 c.from_residual.ensures.1 c.in_err-base.ensures.broken
 
-pub returns-in_err-check_parallel : goal.returns-in_err-check_parallel
-returns-in_err-check_parallel g c =
-    tiny-handed-on c.args.trace.now c.args.report.now c.from_residual-in_err-check_parallel.result c.in_err-check_parallel.field-0.0 c.from_residual-in_err-check_parallel.ensures.1
-    (base-broken c.args.trace.now c.args.report.now c.in_ok-base.base c.in_err-check_parallel.field-0.0 c.in_ok-base.ensures.base c.in_err-check_parallel.ensures.broken)
+pub returns-in_err-judge_rules : goal.returns-in_err-judge_rules
+returns-in_err-judge_rules g c =
+    tiny-handed-on c.args.trace.now c.args.report.now c.from_residual-in_err-judge_rules.result c.in_err-judge_rules.field-0.0 c.from_residual-in_err-judge_rules.ensures.1
+    (base-broken c.args.trace.now c.args.report.now c.in_ok-base.base c.in_err-judge_rules.field-0.0 c.in_ok-base.ensures.base c.in_err-judge_rules.ensures.broken)
 
 pub returns : goal.returns
-returns g c = c.judge_riders.ensures c.args.trace.now c.in_ok-base.ensures.base c.in_ok-check_parallel.ensures.met
+returns g c = c.judge_riders.ensures c.args.trace.now c.in_ok-base.ensures.base c.in_ok-judge_rules.ensures.met

@@ -50,11 +50,11 @@ pub returns-then-not-may_give-clause-fault : goal.returns-then-not-may_give-clau
 returns-then-not-may_give-clause-fault c objects =
     let t = c.args.trace.now in
     let report = c.args.report.now in
-    let keys = subst (λ (ss : List SweepNote). AreKeys true ss c.in_ok-keys.keys) c.as_slice.ensures c.in_ok-keys.ensures in
+    let keys = subst (λ (ss : List SweepNote). AreKeys true ss c.in_ok-keys.keys) c.sweeps.ensures c.in_ok-keys.ensures in
     let wrong = c.if-not-may_give.ensures report.sweeps keys in
-    let at = line-at c.as_slice-journal.result.now report.journal c.loop-number.number _ c.as_slice-journal.ensures c.loop-number-test.true ∙ ap Some c.in-Give.is in
+    let at = line-at c.journal-journal.result.now report.journal c.loop-number.number _ c.journal-journal.ensures c.loop-number-test.true ∙ ap Some c.in-Give.is in
     let lives = subst (λ (ls : List (Option OpenLife)). AreLives (region_of t) (past_of (take c.loop-number.number report.journal)) ls) (sym c.deref.ensures.value) c.loop-number.invariant.lives in
-    let e = ap (λ (xs : List Answer). length xs) c.as_slice-2.ensures in (
+    let e = ap (λ (xs : List Answer). length xs) c.answers.ensures in (
       refl,
       subst (λ (k : ℕ). IsLeast (BreaksSweeps (marked_by t) (last_cycle t) report objects) (k + c.loop-number.number + 1)) (sym e)
           (gives-fault t report objects c.loop-number.number c.in-Give.cycle c.in-Give.page c.in-Give.pages at
@@ -72,8 +72,8 @@ take_up-requires c =
       past_of (take c.loop-number.number report.journal),
       lives,
       elim c.match-line.branch [
-        | in-Give+else-not-may_give w ↦ legal-at (caching_procs t) (region_of t) t.header.goal c.as_slice-journal.result.now report.journal c.loop-number.number _ c.match-line.line c.as_slice-journal.ensures c.loop-number-test.true (w.line-is ∙ sym w.in-Give.is) c.requires.journal.legal
-        | in_default w ↦ legal-at (caching_procs t) (region_of t) t.header.goal c.as_slice-journal.result.now report.journal c.loop-number.number _ c.match-line.line c.as_slice-journal.ensures c.loop-number-test.true w.line-is c.requires.journal.legal
+        | in-Give+else-not-may_give w ↦ legal-at (caching_procs t) (region_of t) t.header.goal c.journal-journal.result.now report.journal c.loop-number.number _ c.match-line.line c.journal-journal.ensures c.loop-number-test.true (w.line-is ∙ sym w.in-Give.is) c.requires.journal.legal
+        | in_default w ↦ legal-at (caching_procs t) (region_of t) t.header.goal c.journal-journal.result.now report.journal c.loop-number.number _ c.match-line.line c.journal-journal.ensures c.loop-number-test.true w.line-is c.requires.journal.legal
       ],
     )
 
@@ -82,19 +82,19 @@ loop-number-preserved c =
     let t = c.args.trace.now in
     let report = c.args.report.now in
     let n = c.loop-number.number in
-    let journal = c.as_slice-journal.result.now in
+    let journal = c.journal-journal.result.now in
     let lives = subst (λ (ls : List (Option OpenLife)). AreLives (region_of t) (past_of (take n report.journal)) ls) (sym c.deref_mut.ensures.value) c.loop-number.invariant.lives in
     let long : length c.take_up.new.lives ≡ c.loop-number.lives.len = c.take_up.auto.lives ∙ c.deref_mut.ensures.len in
     let same = written c.loop-number.lives.len c.take_up.new.lives c.loop-number.lives.items long in
-    let size = ap (λ (js : List Line). length js) c.as_slice-journal.ensures in
+    let size = ap (λ (js : List Line). length js) c.journal-journal.ensures in
     let lt = c.loop-number-test.true in
     let number = sym (past-length report.journal n (omega arith)) in
-    let keys = subst (λ (ss : List SweepNote). AreKeys true ss c.in_ok-keys.keys) c.as_slice.ensures c.in_ok-keys.ensures in
+    let keys = subst (λ (ss : List SweepNote). AreKeys true ss c.in_ok-keys.keys) c.sweeps.ensures c.in_ok-keys.ensures in
     elim c.match-line.branch [
       | in-Give+else-not-may_give w ↦ (
-          let at = line-at journal report.journal n _ c.as_slice-journal.ensures lt in
-          let legal = legal-at (caching_procs t) (region_of t) t.header.goal journal report.journal n _ c.match-line.line c.as_slice-journal.ensures lt (w.line-is ∙ sym w.in-Give.is) c.requires.journal.legal in
-          let more = subst (λ (l : Line). past_of (take (n + 1) report.journal) ≡ l ∷ past_of (take n report.journal)) (sym (w.line-is ∙ sym w.in-Give.is)) (more-at journal report.journal n _ c.as_slice-journal.ensures lt) in
+          let at = line-at journal report.journal n _ c.journal-journal.ensures lt in
+          let legal = legal-at (caching_procs t) (region_of t) t.header.goal journal report.journal n _ c.match-line.line c.journal-journal.ensures lt (w.line-is ∙ sym w.in-Give.is) c.requires.journal.legal in
+          let more = subst (λ (l : Line). past_of (take (n + 1) report.journal) ≡ l ∷ past_of (take n report.journal)) (sym (w.line-is ∙ sym w.in-Give.is)) (more-at journal report.journal n _ c.journal-journal.ensures lt) in
           let before = subst (λ (ls : List (Option OpenLife)). AreLives (region_of t) (past_of (take n report.journal)) ls) (sym w.deref.ensures.value) c.loop-number.invariant.lives in
           record {
             lives = subst (λ (ls : List (Option OpenLife)). AreLives (region_of t) (past_of (take (n + 1) report.journal)) ls) (sym same)
@@ -103,9 +103,9 @@ loop-number-preserved c =
                 (λ cycle page pages e. give-same (w.deref.result.now) report.sweeps _ _ _ cycle page pages (sym w.in-Give.is ∙ e) (w.if-not-may_give.ensures report.sweeps keys)) c.loop-number.invariant.gives;
           })
       | in_default w ↦ (
-          let at = line-at journal report.journal n _ c.as_slice-journal.ensures lt in
-          let legal = legal-at (caching_procs t) (region_of t) t.header.goal journal report.journal n _ c.match-line.line c.as_slice-journal.ensures lt w.line-is c.requires.journal.legal in
-          let more = subst (λ (l : Line). past_of (take (n + 1) report.journal) ≡ l ∷ past_of (take n report.journal)) (sym w.line-is) (more-at journal report.journal n _ c.as_slice-journal.ensures lt) in
+          let at = line-at journal report.journal n _ c.journal-journal.ensures lt in
+          let legal = legal-at (caching_procs t) (region_of t) t.header.goal journal report.journal n _ c.match-line.line c.journal-journal.ensures lt w.line-is c.requires.journal.legal in
+          let more = subst (λ (l : Line). past_of (take (n + 1) report.journal) ≡ l ∷ past_of (take n report.journal)) (sym w.line-is) (more-at journal report.journal n _ c.journal-journal.ensures lt) in
           record {
             lives = subst (λ (ls : List (Option OpenLife)). AreLives (region_of t) (past_of (take (n + 1) report.journal)) ls) (sym same)
                 (subst (λ (p : List Line). AreLives (region_of t) p c.take_up.new.lives) (sym more) (c.take_up.ensures (caching_procs t) (region_of t) t.header.goal (past_of (take n report.journal)) lives legal number));
@@ -114,4 +114,4 @@ loop-number-preserved c =
     ]
 
 pub returns-clause-gives : goal.returns-clause-gives
-returns-clause-gives c n cycle page pages at = c.loop-number.invariant.gives n cycle page pages (let w = slice_get_within c.args.report.now.journal n (Give cycle page pages) at in let f = c.loop-number-test.false in let e = ap (λ (js : List Line). length js) c.as_slice-journal.ensures in omega arith) at
+returns-clause-gives c n cycle page pages at = c.loop-number.invariant.gives n cycle page pages (let w = slice_get_within c.args.report.now.journal n (Give cycle page pages) at in let f = c.loop-number-test.false in let e = ap (λ (js : List Line). length js) c.journal-journal.ensures in omega arith) at

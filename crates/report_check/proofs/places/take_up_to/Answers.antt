@@ -16,21 +16,21 @@ legal-next procs region goal journal n d lt legal = subst (λ (p : List Line). L
 
 pub take_up-requires : goal.take_up-requires
 take_up-requires c =
-    let legal = legal-slice (caching_procs c.args.trace.now) (region_of c.args.trace.now) c.args.trace.now.header.goal c.as_slice-journal.result.now c.args.report.now.journal c.as_slice-journal.ensures c.requires.journal.legal in (
+    let legal = legal-slice (caching_procs c.args.trace.now) (region_of c.args.trace.now) c.args.trace.now.header.goal c.journal-journal.result.now c.args.report.now.journal c.journal-journal.ensures c.requires.journal.legal in (
       caching_procs c.args.trace.now,
       region_of c.args.trace.now,
       c.args.trace.now.header.goal,
-      past_of (take c.loop-next.next c.as_slice-journal.result.now),
+      past_of (take c.loop-next.next c.journal-journal.result.now),
       c.loop-next.invariant.lives,
-      legal-next (caching_procs c.args.trace.now) (region_of c.args.trace.now) c.args.trace.now.header.goal c.as_slice-journal.result.now c.loop-next.next _ c.loop-next-test.true legal,
+      legal-next (caching_procs c.args.trace.now) (region_of c.args.trace.now) c.args.trace.now.header.goal c.journal-journal.result.now c.loop-next.next _ c.loop-next-test.true legal,
     )
 
 pub loop-next-preserved : goal.loop-next-preserved
 loop-next-preserved c =
-    let journal = c.as_slice-journal.result.now in
+    let journal = c.journal-journal.result.now in
     let n = c.loop-next.next in
     let lt = c.loop-next-test.true in
-    let legal = legal-slice (caching_procs c.args.trace.now) (region_of c.args.trace.now) c.args.trace.now.header.goal journal c.args.report.now.journal c.as_slice-journal.ensures c.requires.journal.legal in
+    let legal = legal-slice (caching_procs c.args.trace.now) (region_of c.args.trace.now) c.args.trace.now.header.goal journal c.args.report.now.journal c.journal-journal.ensures c.requires.journal.legal in
     let is = c.cycle_of.ensures in
     let le = c.if-cycle_of-cycle.true in
     let more = line-more journal n (Take 0 0 0 0) lt in
@@ -44,9 +44,9 @@ loop-next-preserved c =
 
 pub returns-else-cycle_of-cycle-clause-end : goal.returns-else-cycle_of-cycle-clause-end
 returns-else-cycle_of-cycle-clause-end c =
-    let journal = c.as_slice-journal.result.now in
-    let legal = legal-slice (caching_procs c.args.trace.now) (region_of c.args.trace.now) c.args.trace.now.header.goal journal c.args.report.now.journal c.as_slice-journal.ensures c.requires.journal.legal in
+    let journal = c.journal-journal.result.now in
+    let legal = legal-slice (caching_procs c.args.trace.now) (region_of c.args.trace.now) c.args.trace.now.header.goal journal c.args.report.now.journal c.journal-journal.ensures c.requires.journal.legal in
     let is = c.cycle_of.ensures in
     let off = c.if-cycle_of-cycle.false in
-    subst (λ (ls : List Line). past_of (take c.loop-next.next ls) ≡ at_end c.args.cycle (past_of ls)) c.as_slice-journal.ensures
+    subst (λ (ls : List Line). past_of (take c.loop-next.next ls) ≡ at_end c.args.cycle (past_of ls)) c.journal-journal.ensures
     (end-at (caching_procs c.args.trace.now) (region_of c.args.trace.now) c.args.trace.now.header.goal journal c.loop-next.next c.args.cycle (Take 0 0 0 0) c.loop-next.invariant.next legal c.loop-next.invariant.by (λ lt. omega arith))

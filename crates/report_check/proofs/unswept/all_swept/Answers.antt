@@ -15,7 +15,7 @@ loop-cycle-init c = record { some = omega arith; opened = c.in_ok-opened.ensures
 
 pub returns-then-not-all_noted : goal.returns-then-not-all_noted
 returns-then-not-all_noted c =
-    let keys = subst (λ (ss : List SweepNote). AreKeys false ss c.in_ok-keys.keys) c.as_slice.ensures c.in_ok-keys.ensures in
+    let keys = subst (λ (ss : List SweepNote). AreKeys false ss c.in_ok-keys.keys) c.sweeps.ensures c.in_ok-keys.ensures in
     let lacks = on-false _ _ _ c.if-not-all_noted.true (c.all_noted.ensures c.args.report.now.sweeps keys) in
     let are = subst (λ (ls : List (Option OpenLife)). AreLives (region_of c.args.trace.now) (at_end (c.loop-cycle.cycle - 1) (past_in c.args.report.now)) ls) (sym c.deref.ensures.value) c.take_up.ensures.lives in
     let some = c.loop-cycle.invariant.some in
@@ -25,7 +25,7 @@ returns-then-not-all_noted c =
 
 pub loop-cycle-preserved : goal.loop-cycle-preserved
 loop-cycle-preserved c =
-    let keys = subst (λ (ss : List SweepNote). AreKeys false ss c.in_ok-keys.keys) c.as_slice.ensures c.in_ok-keys.ensures in
+    let keys = subst (λ (ss : List SweepNote). AreKeys false ss c.in_ok-keys.keys) c.sweeps.ensures c.in_ok-keys.ensures in
     let noted = on-true _ _ _ c.if-not-all_noted.false (c.all_noted.ensures c.args.report.now.sweeps keys) in
     let are = subst (λ (ls : List (Option OpenLife)). AreLives (region_of c.args.trace.now) (at_end (c.loop-cycle.cycle - 1) (past_in c.args.report.now)) ls) (sym c.deref.ensures.value) c.take_up.ensures.lives in
     let some = c.loop-cycle.invariant.some in

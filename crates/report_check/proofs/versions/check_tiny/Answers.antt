@@ -4,10 +4,10 @@ use Rattle.report_check.proofs.versions.check_tiny.Goals as goal
 pub returns-in_err-base : goal.returns-in_err-base
 returns-in_err-base c = tiny-handed-on c.args.trace.now c.args.report.now c.from_residual.result c.in_err-base.field-0.0 c.from_residual.ensures.1 c.in_err-base.ensures.broken
 
-pub returns-in_err-check : goal.returns-in_err-check
-returns-in_err-check c =
-    tiny-handed-on c.args.trace.now c.args.report.now c.from_residual-in_err-check.result c.in_err-check.field-0.0 c.from_residual-in_err-check.ensures.1
-    (base-broken c.args.trace.now c.args.report.now c.in_ok-base.base c.in_err-check.field-0.0 c.in_ok-base.ensures.base c.in_err-check.ensures.broken)
+pub returns-in_err-judge_rules : goal.returns-in_err-judge_rules
+returns-in_err-judge_rules c =
+    tiny-handed-on c.args.trace.now c.args.report.now c.from_residual-in_err-judge_rules.result c.in_err-judge_rules.field-0.0 c.from_residual-in_err-judge_rules.ensures.1
+    (base-broken c.args.trace.now c.args.report.now c.in_ok-base.base c.in_err-judge_rules.field-0.0 c.in_ok-base.ensures.base c.in_err-judge_rules.ensures.broken)
 
 pub returns : goal.returns
-returns c = c.judge_riders.ensures c.args.trace.now c.in_ok-base.ensures.base c.in_ok-check.ensures.met
+returns c = c.judge_riders.ensures c.args.trace.now c.in_ok-base.ensures.base c.in_ok-judge_rules.ensures.met

@@ -9,7 +9,7 @@ use Rattle.report_check.proofs.Showing.{due-lacks, due-printed}
 use Rattle.report_check.proofs.objects.Objects.all_printed.Goals as goal
 
 pub is_printed-requires-clause-printed : goal.is_printed-requires-clause-printed
-is_printed-requires-clause-printed c = subst (λ (ls : List Prof). ArePrinted ls c.in_ok-printed.printed) c.as_slice.ensures c.in_ok-printed.ensures
+is_printed-requires-clause-printed c = subst (λ (ls : List Prof). ArePrinted ls c.in_ok-printed.printed) c.profile.ensures c.in_ok-printed.ensures
 
 pub returns-then-not-is_printed : goal.returns-then-not-is_printed
 returns-then-not-is_printed c =

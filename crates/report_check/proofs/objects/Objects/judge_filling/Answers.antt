@@ -1,5 +1,6 @@
-use Rattle.std.proofs.Common.{ℕ, ◌+◌, ◌*◌, length, refl, sym, subst, arith}
+use Rattle.std.proofs.Common.{ℕ, ◌+◌, ◌*◌, List, length, refl, sym, ap, subst, arith}
 use Rattle.std.proofs.lemmas.Option.{slice_get-get_or}
+use Rattle.page_bitmap.specs.declared.line.Line.{Line}
 use Rattle.report_check.specs.declared.filling.Filling.{Filling}
 use Rattle.report_check.specs.Filling.{HasFillingRoom}
 use Rattle.report_check.specs.Pieces.{seen_by}
@@ -11,7 +12,7 @@ use Rattle.report_check.proofs.objects.Objects.judge_filling.Goals as goal
 
 pub loop-number-init : goal.loop-number-init
 loop-number-init c = record {
-  room = subst (λ (k : ℕ). HasFillingRoom c.in_ok-filling.filling k (c.args.self.now.trace.now.header.procs * 136)) c.len.ensures c.in_ok-filling.ensures.room;
+  room = subst (λ (k : ℕ). HasFillingRoom c.in_ok-filling.filling k (c.args.self.now.trace.now.header.procs * 136)) (ap (λ (ls : List Line). length ls) c.journal.ensures) c.in_ok-filling.ensures.room;
   filled = filled-none (seen_by c.args.piece c.args.self.now.items.now) c.args.self.now.lasts.now c.in_ok-filling.filling c.in_ok-filling.ensures.empty;
 }
 

@@ -1,5 +1,6 @@
 use Rattle.std.proofs.Common.{◌≡◌, ℕ, ◌+◌, ◌<◌, List, length, refl, sym, ◌∙◌, ap, subst, arith}
 use Rattle.trace_reader.specs.declared.trace.Cycle.{Cycle}
+use Rattle.cycle_history.specs.declared.Answer.{Answer}
 use Rattle.cycle_history.specs.Before.{objects_before}
 use Rattle.cycle_history.proofs.Firsts.{before-all}
 use Rattle.tiny_alloc.proofs.Requested.{events-are, events-few}
@@ -43,15 +44,15 @@ loop-cycle-preserved c =
     let next : c.loop-cycle.first + c.len-first.result ≡ objects_before t (k + 1) = omega arith in
     record { first = next; answered = subst (λ (n : ℕ). AreAnsweredTo t c.args.report.now n) (sym next) c.in_ok-judge_cycle.ensures.answers }
 
-pub returns-then-first-len-clause-fault : goal.returns-then-first-len-clause-fault
-returns-then-first-len-clause-fault c =
+pub returns-then-first-answers-clause-fault : goal.returns-then-first-answers-clause-fault
+returns-then-first-answers-clause-fault c =
     let t = c.args.trace.now in
     let size = ap (λ (cs : List Cycle). length cs) c.as_slice-cycles.ensures in
     let over = c.loop-cycle-test.false in
     let all = before-all t c.loop-cycle.cycle (omega arith) in
     let first = c.loop-cycle.invariant.first in
-    let len = c.len.ensures in
-    let lt = c.if-first-len.true in
+    let len = ap (λ (xs : List Answer). length xs) c.answers-answers.ensures in
+    let lt = c.if-first-answers.true in
     (refl, answer-behind t c.args.report.now c.loop-cycle.first (omega arith) (omega arith) c.loop-cycle.invariant.answered)
 
 pub returns-clause-answers : goal.returns-clause-answers
@@ -61,6 +62,6 @@ returns-clause-answers c =
     let over = c.loop-cycle-test.false in
     let all = before-all t c.loop-cycle.cycle (omega arith) in
     let first = c.loop-cycle.invariant.first in
-    let len = c.len.ensures in
-    let le = c.if-first-len.false in
+    let len = ap (λ (xs : List Answer). length xs) c.answers-answers.ensures in
+    let le = c.if-first-answers.false in
     answered-all t c.args.report.now c.loop-cycle.first (omega arith) (omega arith) c.loop-cycle.invariant.answered

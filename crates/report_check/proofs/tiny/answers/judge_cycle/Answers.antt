@@ -18,9 +18,9 @@ returns-then-not-is_right-clause-fault c =
     let at : IsAt t c.args.cycle k n events = record { cycle = c.requires.cycle; those = are; inside = c.loop-event-test.true; number = omega arith } in
     let old = c.loop-event.invariant.answered in
     let few = old.few in
-    let size = ap (λ (xs : List Answer). length xs) c.as_slice-answers.ensures in
+    let size = ap (λ (xs : List Answer). length xs) c.answers-answers.ensures in
     let other = c.if-number-answers.false in
-    (refl, answer-wrong t c.args.report.now c.args.cycle k n events _ c.as_slice-answers.result.now _ at c.as_slice-answers.ensures (omega arith) c.if-not-is_right.ensures old)
+    (refl, answer-wrong t c.args.report.now c.args.cycle k n events _ c.answers-answers.result.now _ at c.answers-answers.ensures (omega arith) c.if-not-is_right.ensures old)
 
 pub returns-then-number-answers-clause-fault : goal.returns-then-number-answers-clause-fault
 returns-then-number-answers-clause-fault c =
@@ -35,8 +35,8 @@ returns-then-number-answers-clause-fault c =
     let at : IsAt t c.args.cycle k n events = record { cycle = c.requires.cycle; those = are; inside = c.loop-event-test.true; number = omega arith } in
     let old = c.loop-event.invariant.answered in
     let few = old.few in
-    let size = ap (λ (xs : List Answer). length xs) c.as_slice-answers.ensures in
-    (refl, answer-missing t c.args.report.now c.args.cycle k n c.end_of-line.result events c.as_slice-answers.result.now at c.as_slice-answers.ensures c.if-number-answers.true c.end_of-line.ensures old)
+    let size = ap (λ (xs : List Answer). length xs) c.answers-answers.ensures in
+    (refl, answer-missing t c.args.report.now c.args.cycle k n c.end_of-line.result events c.answers-answers.result.now at c.answers-answers.ensures c.if-number-answers.true c.end_of-line.ensures old)
 
 pub loop-event-preserved : goal.loop-event-preserved
 loop-event-preserved c =
@@ -51,9 +51,9 @@ loop-event-preserved c =
     let at : IsAt t c.args.cycle k n events = record { cycle = c.requires.cycle; those = are; inside = c.loop-event-test.true; number = omega arith } in
     let old = c.loop-event.invariant.answered in
     let few = old.few in
-    let size = ap (λ (xs : List Answer). length xs) c.as_slice-answers.ensures in
+    let size = ap (λ (xs : List Answer). length xs) c.answers-answers.ensures in
     let other = c.if-number-answers.false in
     record {
       number = omega arith;
-      answered = answered-more t c.args.report.now c.args.cycle k n events _ c.as_slice-answers.result.now _ at c.as_slice-answers.ensures (omega arith) c.if-not-is_right.ensures old;
+      answered = answered-more t c.args.report.now c.args.cycle k n events _ c.answers-answers.result.now _ at c.answers-answers.ensures (omega arith) c.if-not-is_right.ensures old;
     }
