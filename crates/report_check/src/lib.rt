@@ -1,16 +1,22 @@
 //! The judge of reports: which rule a report breaks first, and the first of its lines that breaks it.
 //!
 //! `check` tries the rules in their order, each in passes that answer the least line that breaks it: answers (`items`), the
-//! journal (`journal`, by a `replay` over the pages and the page caches), misses (`misses`), places (`places`, by the table of open lives in `lives`), overlaps (`apart`),
-//! filling (`filling`, by the table of last cycles in `tops`), sweeps (`gives`, `sweeps`, by what `ledger` counts at each mark end, and `unswept`), totals (`totals`) and the
-//! profile (`profile`, by the samples of `sampled`, whose buckets are searched among `sorted` numbers).
+//! journal (`journal`, by a `replay` over the pages and the page caches), misses (`misses`), places (`places`, by the table of
+//! open lives in `lives`), overlaps (`apart`), filling (`filling`, by the table of last cycles in `tops`), sweeps (`gives`,
+//! `sweeps`, by what `ledger` counts at each mark end, and `unswept`), totals (`totals`) and the profile (`profile`, by the
+//! samples of `sampled`, whose buckets are searched among `sorted` numbers).
 //! From rule 5 on each object has its seat (`objects`) and its last cycle (`lasts`), so that no rule searches for a life or
-//! asks the marks again. `totals` tries rule 8 alone too, where rule 1 is met. The parts are offered each by itself, and the rules
-//! 5 and 6 of a `piece` of the objects alone.
+//! asks the marks again. `totals` tries rule 8 alone too, where rule 1 is met. The parts are offered each by itself, and the
+//! rules 5 and 6 of a `piece` of the objects alone.
+//!
+//! `check_version` (`versions`) judges by the rules of the trace's version: of a trace with tiny objects the base that `tiny`
+//! makes, by the same rules, and the objects that ride in the blocks of others by a tenth. A `view` of a report has the base's
+//! answers in place of those that it prints.
 //!
 //! `specs/Lines.antt` numbers the lines of a report. `Answers.antt`, `Placing.antt`, `Closing.antt` and `Published.antt` say
-//! which of them breaks each rule, and `Broken.antt` which rule is the first and which line the least. `laws` says that where
-//! a line is named so, the report doesn't meet that rule, and that rule 2 is that of `Plain.antt` where no processor has a page cache.
+//! which of them breaks each rule, `Broken.antt` which rule is the first and which line the least, and `Versions.antt` the same
+//! of a trace of any version. `laws` says that where a line is named so, the report doesn't meet that rule, and that rule 2 is
+//! that of `Plain.antt` where no processor has a page cache.
 #![tactic(auto)]
 
 mod apart;

@@ -30,11 +30,11 @@ returns c =
     let seen : c.len-seen.result ≡ objects_before t 1 = omega arith in
     let adds = subst (λ (k : ℕ). AddsItems items lasts 0 k c.new-alive.result.items c.add_all.new.alive.items c.deref_mut.result.now c.add_all.new.used) seen c.in_ok-add_all.ensures in
     let adds' = subst (λ (xs : List Alive). AddsItems items lasts 0 (objects_before t 1) xs c.add_all.new.alive.items c.deref_mut.result.now c.add_all.new.used) c.new-alive.ensures.items adds in
-    let zeros : c.in_ok-used.used.items ≡ replicate (length c.journal.result.now) 0 = c.in_ok-used.ensures.items_if_clones_equal (λ y e. e) in
+    let zeros : c.in_ok-used.used.items ≡ replicate (length c.journal-lives.result.now) 0 = c.in_ok-used.ensures.items_if_clones_equal (λ y e. e) in
     let used-long : length c.add_all.new.used ≡ c.in_ok-used.used.len = c.add_all.auto.used ∙ c.deref_mut.ensures.len in
     let used = written c.in_ok-used.used.len c.add_all.new.used c.in_ok-used.used.items used-long in
-    let start = used-none items (length c.journal.result.now) c.deref_mut.result.now (c.deref_mut.ensures.value ∙ zeros) in
-    let lives = ap (λ (ls : List Line). length ls) c.journal.ensures in
+    let start = used-none items (length c.journal-lives.result.now) c.deref_mut.result.now (c.deref_mut.ensures.value ∙ zeros) in
+    let lives = ap (λ (ls : List Line). length ls) c.journal-lives.ensures in
     record {
       before = c.in_ok-new.ensures report 0;
       after = c.in_ok-new-2.ensures report 0;
@@ -42,5 +42,5 @@ returns c =
       alive = alive-first t report items lasts (objects_before t 1) c.add_all.new.alive.items c.deref_mut.result.now c.add_all.new.used c.requires.known refl adds';
       tallies = λ life. (let b = c.in_ok-no_tallies.ensures.before 1 (omega arith) life in omega arith);
       used = subst (λ (us : List ℕ). AreUsed items (objects_before t 1) us) (sym used) (adds'.uses start (omega arith) (ascends t report items lasts (objects_before t 1) c.requires.known));
-      room = (c.in_ok-no_tallies.ensures.length ∙ lives, ap (λ (us : List ℕ). length us) used ∙ (c.add_all.auto.used ∙ (ap (λ (us : List ℕ). length us) (c.deref_mut.ensures.value ∙ zeros) ∙ (length-replicate (length c.journal.result.now) 0 ∙ lives))));
+      room = (c.in_ok-no_tallies.ensures.length ∙ lives, ap (λ (us : List ℕ). length us) used ∙ (c.add_all.auto.used ∙ (ap (λ (us : List ℕ). length us) (c.deref_mut.ensures.value ∙ zeros) ∙ (length-replicate (length c.journal-lives.result.now) 0 ∙ lives))));
     }
