@@ -28,17 +28,15 @@ pub(crate) fn judge_closing<R: Threads + Sync>(
     requires lived { IsLived trace.now report.now lived }
     ensures { IsClosingJudged trace.now report.now items.now result }
 {
-    let (notes, counted) = join(
-        rt,
-        || -> Result<(), CheckFault>
-            requires { AreKnownItems trace.now report.now items.now lasts.now }
-            ensures { IsNotesJudged trace.entry.now report.entry.now items.entry.now result }
-        { judge_notes(alloc, trace, report, items, lasts) },
-        || -> Result<(), CheckFault>
-            requires { IsSync R.row × AreKnownItems trace.now report.now items.now lasts.now }
-            ensures { IsCountedJudged trace.entry.now report.entry.now items.entry.now result }
-        { judge_counted(rt, alloc, trace, report, items, lasts) },
-    );
+    let one = || -> Result<(), CheckFault>
+        requires { AreKnownItems trace.now report.now items.now lasts.now }
+        ensures { IsNotesJudged trace.entry.now report.entry.now items.entry.now result }
+    { judge_notes(alloc, trace, report, items, lasts) };
+    let two = || -> Result<(), CheckFault>
+        requires { IsSync R.row × AreKnownItems trace.now report.now items.now lasts.now }
+        ensures { IsCountedJudged trace.entry.now report.entry.now items.entry.now result }
+    { judge_counted(rt, alloc, trace, report, items, lasts) };
+    let (notes, counted) = join(rt, one, two);
     sweeps_of(lived, notes)?;
     counted
 }
@@ -86,17 +84,15 @@ fn judge_counted<R: Threads + Sync>(
     requires known { AreKnownItems trace.now report.now items.now lasts.now }
     ensures { IsCountedJudged trace.now report.now items.now result }
 {
-    let (totals, profile) = join(
-        rt,
-        || -> Result<(), CheckFault>
-            requires { AreKnownItems trace.now report.now items.now lasts.now }
-            ensures { IsTotalsJudged trace.entry.now report.entry.now items.entry.now result }
-        { totals_of(alloc, trace, report, items, lasts) },
-        || -> Result<(), CheckFault>
-            requires { AreKnownItems trace.now report.now items.now lasts.now }
-            ensures { IsProfileJudged trace.entry.now report.entry.now items.entry.now result }
-        { judge_profile(alloc, trace, report, items, lasts) },
-    );
+    let one = || -> Result<(), CheckFault>
+        requires { AreKnownItems trace.now report.now items.now lasts.now }
+        ensures { IsTotalsJudged trace.entry.now report.entry.now items.entry.now result }
+    { totals_of(alloc, trace, report, items, lasts) };
+    let two = || -> Result<(), CheckFault>
+        requires { AreKnownItems trace.now report.now items.now lasts.now }
+        ensures { IsProfileJudged trace.entry.now report.entry.now items.entry.now result }
+    { judge_profile(alloc, trace, report, items, lasts) };
+    let (totals, profile) = join(rt, one, two);
     totals?;
     profile
 }

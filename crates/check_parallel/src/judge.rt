@@ -100,17 +100,15 @@ fn judge_beside<R: Threads + Sync>(
     ensures early { IsEarlyJudged trace.now report.now items.now result.0 }
     ensures closing { IsClosingJudged trace.now report.now items.now result.1 }
 {
-    join(
-        rt,
-        || -> Result<(), CheckFault>
-            requires { IsSync R.row × AreKnownItems trace.now report.now items.now lasts.now }
-            ensures { IsEarlyJudged trace.entry.now report.entry.now items.entry.now result }
-        { judge_early(rt, alloc, trace, report, items, lasts, pieces) },
-        || -> Result<(), CheckFault>
-            requires { IsSync R.row × AreKnownItems trace.now report.now items.now lasts.now × IsLived trace.now report.now lived }
-            ensures { IsClosingJudged trace.entry.now report.entry.now items.entry.now result }
-        { judge_closing(rt, alloc, trace, report, items, lasts, lived) },
-    )
+    let one = || -> Result<(), CheckFault>
+        requires { IsSync R.row × AreKnownItems trace.now report.now items.now lasts.now }
+        ensures { IsEarlyJudged trace.entry.now report.entry.now items.entry.now result }
+    { judge_early(rt, alloc, trace, report, items, lasts, pieces) };
+    let two = || -> Result<(), CheckFault>
+        requires { IsSync R.row × AreKnownItems trace.now report.now items.now lasts.now × IsLived trace.now report.now lived }
+        ensures { IsClosingJudged trace.entry.now report.entry.now items.entry.now result }
+    { judge_closing(rt, alloc, trace, report, items, lasts, lived) };
+    join(rt, one, two)
 }
 
 // Rule 3, and beside it the rules 5 and 6.
@@ -126,16 +124,14 @@ fn judge_early<R: Threads + Sync>(
     requires known { AreKnownItems trace.now report.now items.now lasts.now }
     ensures { IsEarlyJudged trace.now report.now items.now result }
 {
-    let (misses, inside) = join(
-        rt,
-        || -> Result<(), CheckFault>
-            ensures { IsMissesJudged report.entry.now items.entry.now result }
-        { judge_misses(alloc, report, items) },
-        || -> Result<(), CheckFault>
-            requires { IsSync R.row × AreKnownItems trace.now report.now items.now lasts.now }
-            ensures { IsInsideJudged trace.entry.now items.entry.now result }
-        { judge_inside(rt, alloc, trace, report, items, lasts, pieces) },
-    );
+    let one = || -> Result<(), CheckFault>
+        ensures { IsMissesJudged report.entry.now items.entry.now result }
+    { judge_misses(alloc, report, items) };
+    let two = || -> Result<(), CheckFault>
+        requires { IsSync R.row × AreKnownItems trace.now report.now items.now lasts.now }
+        ensures { IsInsideJudged trace.entry.now items.entry.now result }
+    { judge_inside(rt, alloc, trace, report, items, lasts, pieces) };
+    let (misses, inside) = join(rt, one, two);
     misses?;
     inside
 }

@@ -61,25 +61,24 @@ fn verdicts_of<R: Threads + Sync>(
     ensures each { IfOk result (λ verdicts. AreVerdicts trace.now items.now verdicts.items) }
 {
     let count = pieces.count;
+    let judged = |number: u32| -> Verdict
+        requires { AreKnownItems trace.now report.now items.now lasts.now × AreHomes count items.now homes.now }
+        ensures { IsVerdict trace.entry.now items.entry.now (record { number = number; count = count }) result }
+    {
+        verdict_of(
+            alloc,
+            trace,
+            report,
+            items,
+            lasts,
+            homes,
+            Piece { number, count },
+        )
+    };
     let verdicts = (0..count)
         .into_par_iter()
         .with_min_len(1)
-        .map(
-            |number: u32| -> Verdict
-                requires { AreKnownItems trace.now report.now items.now lasts.now × AreHomes count items.now homes.now }
-                ensures { IsVerdict trace.entry.now items.entry.now (record { number = number; count = count }) result }
-            {
-                verdict_of(
-                    alloc,
-                    trace,
-                    report,
-                    items,
-                    lasts,
-                    homes,
-                    Piece { number, count },
-                )
-            },
-        )
+        .map(judged)
         .collect::<Vec<_>>(rt, alloc)?;
     Ok(verdicts)
 }

@@ -149,17 +149,15 @@ fn prepared<R: Threads + Sync>(
     ensures pages { IsPagesJudged trace.now report.now result.1.0 }
     ensures lasts { AreLastsOf trace.now result.1.1 }
 {
-    join(
-        rt,
-        || -> (Result<Vec<Item>, NoMemory>, Result<List<Asked>, NoMemory>)
-            requires { IsSync R.row × IsLimited trace.now }
-            ensures { IfOk result.0 (λ blank. length blank.items ≡ length report.entry.now.answers) × IfOk result.1 (AreRequests trace.entry.now) }
-        { unwritten(rt, alloc, trace, report) },
-        || -> (Result<Lived, CheckFault>, Result<Vec<u32>, NoMemory>)
-            requires { IsSync R.row × IsLimited trace.now }
-            ensures { IsPagesJudged trace.entry.now report.entry.now result.0 × AreLastsOf trace.entry.now result.1 }
-        { unanswered(rt, alloc, trace, report) },
-    )
+    let one = || -> (Result<Vec<Item>, NoMemory>, Result<List<Asked>, NoMemory>)
+        requires { IsSync R.row × IsLimited trace.now }
+        ensures { IfOk result.0 (λ blank. length blank.items ≡ length report.entry.now.answers) × IfOk result.1 (AreRequests trace.entry.now) }
+    { unwritten(rt, alloc, trace, report) };
+    let two = || -> (Result<Lived, CheckFault>, Result<Vec<u32>, NoMemory>)
+        requires { IsSync R.row × IsLimited trace.now }
+        ensures { IsPagesJudged trace.entry.now report.entry.now result.0 × AreLastsOf trace.entry.now result.1 }
+    { unanswered(rt, alloc, trace, report) };
+    join(rt, one, two)
 }
 
 // A place for each answer, and the requests.
@@ -173,16 +171,14 @@ fn unwritten<R: Threads + Sync>(
     ensures blank { IfOk result.0 (λ blank. length blank.items ≡ length report.now.answers) }
     ensures asked { IfOk result.1 (AreRequests trace.now) }
 {
-    join(
-        rt,
-        || -> Result<Vec<Item>, NoMemory>
-            ensures { IfOk result (λ blank. length blank.items ≡ length report.entry.now.answers) }
-        { blank_items(alloc, report.answers().len()) },
-        || -> Result<List<Asked>, NoMemory>
-            requires { IsLimited trace.now }
-            ensures { IfOk result (AreRequests trace.entry.now) }
-        { asked_of(alloc, trace) },
-    )
+    let one = || -> Result<Vec<Item>, NoMemory>
+        ensures { IfOk result (λ blank. length blank.items ≡ length report.entry.now.answers) }
+    { blank_items(alloc, report.answers().len()) };
+    let two = || -> Result<List<Asked>, NoMemory>
+        requires { IsLimited trace.now }
+        ensures { IfOk result (AreRequests trace.entry.now) }
+    { asked_of(alloc, trace) };
+    join(rt, one, two)
 }
 
 // So many items, which are to be written over.
@@ -214,17 +210,15 @@ fn unanswered<R: Threads + Sync>(
     ensures pages { IsPagesJudged trace.now report.now result.0 }
     ensures lasts { AreLastsOf trace.now result.1 }
 {
-    join(
-        rt,
-        || -> Result<Lived, CheckFault>
-            requires { IsLimited trace.now }
-            ensures { IsPagesJudged trace.entry.now report.entry.now result }
-        { judge_pages(alloc, trace, report) },
-        || -> Result<Vec<u32>, NoMemory>
-            requires { IsLimited trace.now }
-            ensures { AreLastsOf trace.entry.now result }
-        { lasts_of(alloc, trace) },
-    )
+    let one = || -> Result<Lived, CheckFault>
+        requires { IsLimited trace.now }
+        ensures { IsPagesJudged trace.entry.now report.entry.now result }
+    { judge_pages(alloc, trace, report) };
+    let two = || -> Result<Vec<u32>, NoMemory>
+        requires { IsLimited trace.now }
+        ensures { AreLastsOf trace.entry.now result }
+    { lasts_of(alloc, trace) };
+    join(rt, one, two)
 }
 
 // Rule 2, and where it is met, what the journal says of rule 7.
