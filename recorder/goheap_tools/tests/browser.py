@@ -1,6 +1,7 @@
 """Drives a browser without a window over two pipes, by its own protocol: messages of JSON, each ended by a zero byte."""
 
 import base64
+import fcntl
 import json
 import os
 import select
@@ -19,13 +20,20 @@ def browser_command():
     return next((path for path in map(shutil.which, NAMES) if path), None)
 
 
+def raised(handle):
+    """The same handle under a number above those that a program begins with, of which one may be free where standard input is closed."""
+    found = fcntl.fcntl(handle, fcntl.F_DUPFD_CLOEXEC, 10)
+    os.close(handle)
+    return found
+
+
 class Browser:
     """A browser with one page. What the page writes to its console as an error, and each fault that it raises, is in `errors`."""
 
     def __init__(self, width=1400, height=900, dark=False):
         self.folder = tempfile.TemporaryDirectory()
-        to_browser, self.writing = os.pipe()
-        self.reading, from_browser = os.pipe()
+        to_browser, self.writing = map(raised, os.pipe())
+        self.reading, from_browser = map(raised, os.pipe())
         words = [browser_command(), "--headless=new", "--no-sandbox", "--disable-gpu", "--disable-dev-shm-usage", "--no-first-run", "--disable-extensions", "--disable-background-networking", "--disable-component-update",
                  "--disable-sync", "--no-proxy-server", "--host-resolver-rules=MAP * ~NOTFOUND", "--allow-file-access-from-files", f"--user-data-dir={self.folder.name}", "--remote-debugging-pipe", "about:blank"]  # fmt: skip
 
