@@ -104,8 +104,9 @@ def paired(path: str, progress: Progress) -> Files:
 
 def run(trace: str, report: str, progress: Progress) -> None:
     """Has the report of a trace made."""
-    pace = RUNNING if judging.is_built() else MODELLING
-    with progress.step(f"runs {os.path.basename(trace)} by {judging.by_whom()}", pace * megabytes(trace)):
+    version = judging.version_of(trace)
+    pace = RUNNING if judging.reads(version) else MODELLING
+    with progress.step(f"runs {os.path.basename(trace)} by {judging.by_whom(version)}", pace * megabytes(trace)):
         judging.run_trace(trace, report)
 
 

@@ -199,7 +199,10 @@ def pair_of(recording: Recording) -> Pair:
     for event in events[:whole]:
         if type(event) is form.Begin and event.reason or type(event) is form.Stop:
             raise Unusable(f"{recording.path}: the recording was stopped in between, and what the heap did meanwhile is not known")
-        pair.take(event)
+        try:
+            pair.take(event)
+        except KeyError:
+            raise Unusable(f"{recording.path}: an event does not fit what came before it: {event}") from None
     return pair
 
 

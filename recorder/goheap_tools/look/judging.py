@@ -1,5 +1,6 @@
-"""Has traces run and reports judged: by goheap where it is built, and else by what stands beside it in Python, which says so."""
+"""Has traces run and reports judged: by goheap where it is built and reads them, and else by what stands beside it in Python, which says so."""
 
+import functools
 import os
 import subprocess
 import sys
@@ -8,15 +9,15 @@ from typing import Any, Dict, List
 from goheap_tools.cli import explain
 from goheap_tools.formats.frames import shown_frames
 from goheap_tools.look.gather import Recording
-from goheap_tools.tool import Output, Unusable
+from goheap_tools.tool import FIRST_LINES, Output, Unusable
 
 TOP = os.path.dirname(os.path.dirname(os.path.dirname(os.path.dirname(os.path.abspath(__file__)))))
 BUILT = os.path.join(TOP, "crates", "goheap", "out", "goheap")
 LAUNCHER, MODEL = os.path.join(TOP, "goheap"), os.path.join(TOP, "model", "run.py")
 # Sentences of a judge that are shown.
 MOST = 200
-# The newest version of a trace that goheap reads.
-NEWEST = 3
+# The smallest trace of a version, and its report behind it.
+LEAST = "goheap {version}\nheap 1 procs 1 rate 1 seed 1 goal 512\nend\nend\n"
 
 
 def is_built() -> bool:
@@ -24,20 +25,38 @@ def is_built() -> bool:
     return os.access(BUILT, os.X_OK)
 
 
-def runner() -> List[str]:
-    """The command that makes a report of a trace."""
-    return [LAUNCHER, "run", "--each"] if is_built() else [sys.executable, MODEL, "--each"]
+@functools.cache
+def reads(version: int) -> bool:
+    """Whether the proved program stands, and reads traces of this version."""
+    if not is_built():
+        return False
+    ran = subprocess.run([LAUNCHER, "check"], input=LEAST.format(version=version), capture_output=True, text=True)
+    return ran.returncode == 0 and ran.stdout == "check ok\n"
 
 
-def by_whom() -> str:
-    """Who runs traces here."""
-    return "goheap" if is_built() else "the plain model, since goheap is not built (./goheap --build)"
+def version_of(trace: str) -> int:
+    """The version of a trace, by its first line; 1 where that is none."""
+    with open(trace, "rb") as file:
+        word = file.readline(20).decode(errors="replace").strip()
+    return FIRST_LINES.get(word, 1)
+
+
+def runner(version: int = 1) -> List[str]:
+    """The command that makes a report of a trace of this version."""
+    return [LAUNCHER, "run", "--each"] if reads(version) else [sys.executable, MODEL, "--each"]
+
+
+def by_whom(version: int = 1) -> str:
+    """Who runs traces of this version here."""
+    if reads(version):
+        return "goheap"
+    return "the plain model, since goheap " + (f"does not read version {version} as it is built" if is_built() else "is not built (./goheap --build)")
 
 
 def run_trace(trace: str, report: str) -> None:
     """Makes the report of a trace."""
     with open(trace, "rb") as given, Output(report, binary=True) as out:
-        with subprocess.Popen(runner(), stdin=given, stdout=subprocess.PIPE, stderr=subprocess.PIPE) as ran:
+        with subprocess.Popen(runner(version_of(trace)), stdin=given, stdout=subprocess.PIPE, stderr=subprocess.PIPE) as ran:
             while ran.stdout and (piece := ran.stdout.read(1 << 20)):
                 out.write(piece)
             said = ran.stderr.read().decode(errors="replace").strip() if ran.stderr else ""
@@ -64,7 +83,7 @@ def checked(trace: str, report: str) -> Dict[str, Any]:
 
 def why_not(recording: Recording) -> str:
     """Why the proved judge does not say it."""
-    return "goheap is not built here" if not is_built() else f"goheap reads traces up to version {NEWEST} as yet"
+    return "goheap is not built here" if not is_built() else f"the goheap that is built does not read traces of version {recording.trace.version}"
 
 
 def explained(recording: Recording, report: str) -> Dict[str, Any]:
@@ -79,7 +98,7 @@ def explained(recording: Recording, report: str) -> Dict[str, Any]:
 
 def judged(recording: Recording, trace: str, report: str) -> Dict[str, Any]:
     """The words of the judge on the report. A refused one has what `explain` says of it as well."""
-    if not is_built() or recording.trace.version > NEWEST:
+    if not reads(recording.trace.version):
         return explained(recording, report)
     found = checked(trace, report)
     if not found["sound"]:

@@ -16,6 +16,7 @@ import (
 var runs = map[string]func(words []string){
 	"small": small, "tiny": tiny, "large": large, "finalizers": finalizers, "given": given, "processors": processors, "forty": forty,
 	"addresses": addresses, "stacks": stacks, "forever": forever, "lines": lines, "child": child, "sampled": sampled,
+	"sizes": sizes, "memory": memory, "few": few,
 }
 
 func main() {
@@ -223,4 +224,45 @@ func sampled([]string) {
 		total += record.AllocObjects
 	}
 	println("sampled", total)
+}
+
+// sizes allocates an object of each size up to 40,000 without pointers, and one of each that Go has with pointers, the multiples of 8.
+func sizes([]string) {
+	for size := 1; size <= 40000; size++ {
+		any1 = make([]byte, size)
+		if size%8 == 0 {
+			any1 = make([]*int, size/8)
+		}
+	}
+	counted()
+}
+
+// memory prints, behind each of its collections and their sweeps, what the runtime says of its memory.
+func memory([]string) {
+	var m runtime.MemStats
+	for i := 0; i < 4; i++ {
+		mix(6000)
+		deep(200 * i)
+		kept = kept[:len(kept)/2]
+		runtime.GC()
+		runtime.ReadMemStats(&m)
+		println("memory", m.NumGC, m.HeapInuse, m.StackInuse, m.HeapIdle, m.HeapReleased)
+		if i == 2 {
+			debug.FreeOSMemory()
+		}
+	}
+}
+
+// few has a little of each: small, tiny and large objects, stacks of goroutines that grow, and pages that go back to the system.
+func few([]string) {
+	for i := 0; i < 3; i++ {
+		mix(800)
+		work(3, 60)
+		for j := 0; j < 200; j++ {
+			any1 = new(int16)
+		}
+		kept = append(kept[:len(kept)/2], make([]byte, 40000))
+		debug.FreeOSMemory()
+	}
+	counted()
 }
