@@ -10,8 +10,8 @@ from goheap_tools.formats.recordings import recording_at
 from goheap_tools.formats.report import report_in
 from goheap_tools.formats.stacks import Stacks, stack_file
 from goheap_tools.formats.traces import trace_in
-from goheap_tools.views.tables import Profile, buckets_of_trace
 from goheap_tools.heap.difference import Difference, differences, in_use, ratio_of
+from goheap_tools.heap.profile import Profile, buckets_of_trace
 from goheap_tools.tool import Unusable, plain, size_text
 
 UNITS = {"": 1, "B": 1, "KB": 1 << 10, "KIB": 1 << 10, "MB": 1 << 20, "MIB": 1 << 20, "GB": 1 << 30, "GIB": 1 << 30}

@@ -24,9 +24,10 @@ from goheap_tools.formats.stacks import Stacks, stack_file
 from goheap_tools.formats.traces import Trace, trace_in
 from goheap_tools.heap.classes import PAGE, SLOTS
 from goheap_tools.heap.estimate import factor
+from goheap_tools.heap.profile import MarkEnd, Profile, buckets_of_report, buckets_of_trace
 from goheap_tools.heap.tiny import slot_in
 from goheap_tools.tool import size_text
-from goheap_tools.views.tables import Buckets, Lines, MarkEnd, Profile, Table, Types, buckets_of_report, buckets_of_trace
+from goheap_tools.views.tables import Buckets, Lines, Table, Types
 
 # Of the objects behind the last mark end, of which nothing tells whether they stay alive, a word is said where they are this part.
 MANY_BEHIND = 0.05

@@ -30,7 +30,7 @@ from goheap_tools.inside.kinds import Kind, kind_of
 from goheap_tools.look import gather, judging
 from goheap_tools.look.assemble import Page
 from goheap_tools.look.gather import Recording
-from goheap_tools.look.progress import Progress
+from goheap_tools.progress import Steps
 
 # Seconds that a megabyte of trace and report takes, by step, as measured; so a step tells how far it is.
 READING, COUNTING, WRITING, EXPLAINING, RUNNING, MODELLING, PAIRING = 0.06, 0.09, 0.12, 0.5, 0.05, 2.0, 1.0
@@ -66,7 +66,7 @@ def megabytes(*paths: Optional[str]) -> float:
     return sum(os.path.getsize(path) for path in paths if path) / 1e6
 
 
-def record(options: argparse.Namespace, progress: Progress) -> Files:
+def record(options: argparse.Namespace, progress: Steps) -> Files:
     """Runs the program under `record`, and the trace of one that does not record itself."""
     os.makedirs(options.folder, exist_ok=True)
     if os.path.isfile(options.command[0]) and kind_of(options.command[0]) is Kind.ITSELF:
@@ -83,7 +83,7 @@ def record(options: argparse.Namespace, progress: Progress) -> Files:
     return Files(trace, report, stacks)
 
 
-def record_itself(options: argparse.Namespace, progress: Progress) -> Files:
+def record_itself(options: argparse.Namespace, progress: Steps) -> Files:
     """Runs a program that records itself, whatever its own status is: its report is what Go's runtime did."""
     path = os.path.join(options.folder, os.path.basename(options.command[0]) + ".heap")
     with contextlib.suppress(FileNotFoundError):
@@ -95,14 +95,14 @@ def record_itself(options: argparse.Namespace, progress: Progress) -> Files:
     return paired(path, progress)
 
 
-def paired(path: str, progress: Progress) -> Files:
+def paired(path: str, progress: Steps) -> Files:
     """Trace, report and stacks of a recording that a program made of itself, beside it."""
     with progress.step("makes trace and report of the recording", PAIRING * megabytes(path)):
         pair.main([path])
     return Files(*(os.path.splitext(path)[0] + "." + name for name in Files._fields))
 
 
-def run(trace: str, report: str, progress: Progress) -> None:
+def run(trace: str, report: str, progress: Steps) -> None:
     """Has the report of a trace made."""
     version = judging.version_of(trace)
     pace = RUNNING if judging.reads(version) else MODELLING
@@ -110,7 +110,7 @@ def run(trace: str, report: str, progress: Progress) -> None:
         judging.run_trace(trace, report)
 
 
-def files_of(options: argparse.Namespace, progress: Progress) -> Files:
+def files_of(options: argparse.Namespace, progress: Steps) -> Files:
     """The files of the recording that the page is of."""
     if options.command:
         return record(options, progress)
@@ -122,7 +122,7 @@ def files_of(options: argparse.Namespace, progress: Progress) -> Files:
     return with_report(found._replace(stacks=options.stacks or found.stacks), progress)
 
 
-def with_report(files: Files, progress: Progress) -> Files:
+def with_report(files: Files, progress: Steps) -> Files:
     """The recording with its report, which is made where there is none."""
     if files.report:
         return files
@@ -131,7 +131,7 @@ def with_report(files: Files, progress: Progress) -> Files:
     return files._replace(report=report)
 
 
-def read(files: Files, progress: Progress) -> Recording:
+def read(files: Files, progress: Steps) -> Recording:
     """The recording, whose files must be of one."""
     with progress.step(f"reads {files.trace}", READING * megabytes(files.trace, files.report)):
         stacks = stack_file(files.stacks) if files.stacks else Stacks({}, {}, {})
@@ -152,7 +152,7 @@ def title_of(options: argparse.Namespace, files: Files, recording: Recording) ->
     return program or (os.path.basename(folder) if name == "trace" else name.removesuffix(".trace"))
 
 
-def page_of(options: argparse.Namespace, progress: Progress) -> Tuple[Page, Files]:
+def page_of(options: argparse.Namespace, progress: Steps) -> Tuple[Page, Files]:
     files = files_of(options, progress)
     recording = read(files, progress)
     size = megabytes(files.trace, files.report)
@@ -177,7 +177,7 @@ def steps_of(options: argparse.Namespace) -> int:
 
 def main(words: List[str]) -> int:
     options = options_of(words)
-    progress = Progress(steps_of(options))
+    progress = Steps("look", steps_of(options))
     with tool.Output(options.output) as out:
         page, files = page_of(options, progress)
         with progress.step("writes the page", WRITING * megabytes(files.trace, files.report)):

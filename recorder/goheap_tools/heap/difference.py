@@ -2,7 +2,7 @@
 
 from typing import Any, List, NamedTuple
 
-from goheap_tools.views.tables import Profile, Row
+from goheap_tools.heap.profile import Profile, Row
 
 
 class Difference(NamedTuple):

@@ -5,17 +5,17 @@ import json
 import os
 from typing import Any, Dict, Iterator, List, Optional, Tuple
 
-from goheap_tools.views.tables import Table
 from goheap_tools.formats.stacks import Stacks
 from goheap_tools.heap.classes import BASE, PAGE, PAGES, SLOTS
-from goheap_tools.views.tables import Profile
 from goheap_tools.heap.difference import differences, in_use, ratio_of
 from goheap_tools.heap.pinning import Pins
+from goheap_tools.heap.profile import Profile
 from goheap_tools.look import gather
 from goheap_tools.look.columns import Columns
 from goheap_tools.look.gather import Course, Recording, StackTable
 from goheap_tools.look.summary import Facts, Sentence, sentences
 from goheap_tools.tool import size_text
+from goheap_tools.views.tables import Table
 
 FOLDER = os.path.dirname(os.path.abspath(__file__))
 # The parts of the page's code, in the order in which they stand in it.

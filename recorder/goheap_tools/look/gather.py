@@ -14,8 +14,8 @@ from goheap_tools.formats.stacks import Stacks
 from goheap_tools.formats.traces import Trace
 from goheap_tools.heap import pages
 from goheap_tools.heap.classes import BASE, PAGE, SLOTS
-from goheap_tools.views.tables import MarkEnd, buckets_of_trace
 from goheap_tools.heap.pinning import Replay, others_of
+from goheap_tools.heap.profile import MarkEnd, buckets_of_trace
 from goheap_tools.look.columns import Columns
 
 # The words of the journal, by the numbers that the page has for them.

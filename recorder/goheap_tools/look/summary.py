@@ -5,15 +5,15 @@ Each has the command that prints the same numbers, and where in the page they ar
 
 from typing import Any, Dict, Iterator, List, NamedTuple, Optional, Tuple
 
-from goheap_tools.views.tables import Lines, Table
-from goheap_tools.views.pin_tables import Functions, counted
 from goheap_tools.formats.journal import Miss
 from goheap_tools.heap.classes import PAGE
-from goheap_tools.views.tables import Profile, Row
 from goheap_tools.heap.pages import FREE_KINDS, Pages
 from goheap_tools.heap.pinning import Names, Pins, longest
+from goheap_tools.heap.profile import Profile, Row
 from goheap_tools.look.gather import Course, Recording, missed_of
 from goheap_tools.tool import size_text
+from goheap_tools.views.pin_tables import Functions, counted
+from goheap_tools.views.tables import Lines, Table
 
 # A function is said to leak that grew at this part of the mark ends, and by this part of what is live.
 STEADY, MUCH = 0.6, 0.05

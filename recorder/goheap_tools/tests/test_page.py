@@ -10,7 +10,7 @@ import re
 import unittest
 
 from goheap_tools.look.columns import Columns
-from goheap_tools.look.progress import Progress
+from goheap_tools.progress import Steps
 from goheap_tools.tests import made
 from goheap_tools.tests.browser import Browser, browser_command
 from goheap_tools.tests.testing import HERE, Folder, run, text_of
@@ -87,9 +87,9 @@ class Parts(Recorded):
         self.assertRegex(said, r"\A(look: [1-5] of 5, [^\n]*: [0-9.]+ s\n){5}look: the page is .*page\.html \([0-9.]+ MB\)\n\Z")
 
     def test_how_far_a_step_is(self):
-        step = Progress(3).step("reads", 10)
+        step = Steps("look", 3).step("reads", 10)
         self.assertEqual((step.front(), step.far(2.5), step.far(30)), ("look: 1 of 3, reads", "25 %, about 8 s left", "99 %, some seconds more than expected"))
-        self.assertEqual(Progress(1).step("records").far(4), "4 s so far")
+        self.assertEqual(Steps("look", 1).step("records").far(4), "4 s so far")
 
     def test_what_cannot_be_looked_at(self):
         front = self.made()

@@ -11,11 +11,10 @@ import xml.dom.minidom
 from collections import Counter
 
 from goheap_tools.formats import report, traces
-from goheap_tools.heap import rules, tiny
+from goheap_tools.heap import profile, rules, tiny
 from goheap_tools.heap.classes import BASE, PAGE
 from goheap_tools.heap.judged import Judged
 from goheap_tools.tests.testing import HERE, Folder, block, data, module, run, text_of
-from goheap_tools.views import tables
 
 EXAMPLES = os.path.join(HERE, "..", "examples")
 MODEL = os.path.join(HERE, "..", "model")
@@ -151,7 +150,7 @@ class ReadersOfVersions(Folder):
     def test_leaks_counts_the_trace_as_the_report_does(self):
         for number in range(9):
             trace, told = read(*self.files(1 + number % 3, number)[:2])
-            found = [bucket for _, buckets in tables.buckets_of_trace(trace, told.addresses) for bucket in sorted(buckets)]
+            found = [bucket for _, buckets in profile.buckets_of_trace(trace, told.addresses) for bucket in sorted(buckets)]
             # As of each mark end before the last the report has the changed buckets, as of the last all.
             last = [bucket for bucket in told.buckets if bucket.mark_end == trace.mark_ends]
             changed = [bucket for bucket in found if bucket.mark_end < trace.mark_ends]
