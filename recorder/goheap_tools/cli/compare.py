@@ -4,6 +4,12 @@
 
 For each object: whether its slot has the same size, and whether it is the same slot of its span. For each mark end and size
 class: how many spans hold an object that was found alive. Nothing is claimed of the whole; the figures are counts.
+
+    goheap run < server.trace > model.report
+    recorder/compare server.trace server.report model.report
+
+sets a model's run of a trace beside the report of the real run that the trace is of (`pair` makes both): the very slot, spans, pages and free
+slots, by size class and mark end.
 """
 
 import argparse
@@ -21,6 +27,7 @@ from goheap_tools.formats.stacks import stack_file
 from goheap_tools.formats.traces import Event, Trace, trace_in
 from goheap_tools.heap.classes import LARGEST, PAGE, PAGES, SLOTS
 from goheap_tools.heap.tiny import BLOCK, riders_of, slot_in
+from goheap_tools.views.beside import Beside
 
 # The slot size of an object, and the first page of its span.
 Seat = Tuple[int, int]
@@ -212,15 +219,43 @@ def check_stacks(options: argparse.Namespace) -> None:
         raise tool.Unusable(f"{options.trace} begins at mark end {stacks.number('from mark end')} of its log, and cannot be compared with it")
 
 
+def is_trace(path: str) -> bool:
+    """Whether the file is a trace, and not a log, which may be packed."""
+    if path == "-":
+        return False
+    with open(path, "rb") as file:
+        return tool.kind_of(file.read(100).decode("latin-1")) == "a trace"
+
+
+def set_beside(options: argparse.Namespace) -> int:
+    """The report of a real run beside a model's of the same trace."""
+    trace, real, model = trace_in(options.log), report_in(options.trace), report_in(options.report)
+    if options.stacks:
+        companions.of_trace(stack_file(options.stacks), trace, (options.stacks, trace.name))
+    for report in (real, model):
+        if len(report.addresses) != len(trace.sizes):
+            raise tool.Unusable(f"{report.name} has {len(report.addresses)} objects, and {trace.name} has {len(trace.sizes)}: it is no report of this trace")
+    found = Beside(trace, real, model)
+    with tool.Output(options.output) as out:
+        if options.json:
+            out.write(json.dumps(found.told(), indent=1) + "\n")
+        else:
+            for line in found.lines():
+                out.write(line + "\n")
+    return 0
+
+
 def main(words: List[str]) -> int:
-    parser = argparse.ArgumentParser(prog="compare", description=__doc__.split("\n\n")[0])
-    parser.add_argument("log", help="the log that the trace was recorded from")
-    parser.add_argument("trace")
+    parser = argparse.ArgumentParser(prog="compare", description=__doc__.split("\n\n")[0], usage="%(prog)s [options] log trace report | trace real-report report")
+    parser.add_argument("log", help="the log that the trace was recorded from; or the trace of a real run")
+    parser.add_argument("trace", help="the trace; or the report of the real run")
     parser.add_argument("report", help="what goheap printed of the trace")
     parser.add_argument("--stacks", help="the stacks of the recording, by which another trace is told")
     parser.add_argument("--json", action="store_true", help="print the counts as JSON")
     parser.add_argument("--output", "-o", default="-", help="a file for the tables (default: standard output)")
     options = parser.parse_args(words)
+    if is_trace(options.log):
+        return set_beside(options)
     with tool.Output(options.output) as out, log_in(options.log) as log:
         if options.stacks:
             check_stacks(options)

@@ -39,6 +39,7 @@ def stacks_header(recording: Recording, pair: Pair, digest: str) -> Iterator[str
         "mark ends": pair.last,
         "behind": pair.behind,
         "stacks": len(pair.stacks),
+        "memory": " ".join(f"{heap}:{stacks}" for heap, stacks in pair.memory),
         "digest": digest,
     }
     yield "# goheap stacks 2\n"

@@ -1,9 +1,10 @@
 """Reads a heap text of goheap, in the form that docs/profile.md has."""
 
 import re
-from typing import Iterable, List, Match, NamedTuple, Optional
+from typing import Dict, Iterable, List, Match, NamedTuple, Optional, Tuple
 
-from goheap_tools.tool import Unusable, kind_of, named, reading
+from goheap_tools.formats.report import Report
+from goheap_tools.tool import Unusable, kind_of
 
 # Each sum of a text is below this.
 LIMIT = 1 << 63
@@ -83,7 +84,12 @@ def read_heap(lines: Iterable[str], name: str = "heap") -> Heap:
     return Heap(int(top[5]) // 2, sums, buckets)
 
 
-def heap_in(path: str) -> Heap:
-    """The heap text in the file; - is standard input."""
-    with reading(path) as file:
-        return read_heap(file, named(path))
+def heap_of(report: Report, rate: int) -> Heap:
+    """The heap text that the profile of a report's last mark end comes to: its buckets by falling bytes in use."""
+    last: Dict[Tuple[int, int], Bucket] = {}
+    for one in report.buckets:
+        objects = one.allocs - one.frees
+        numbers = Numbers(objects, objects * one.slot, one.allocs, one.allocs * one.slot)
+        last[one.stack, one.slot] = Bucket(numbers, one.slot, one.stack)
+    buckets = sorted(last.values(), key=lambda bucket: (-bucket.numbers.bytes, bucket.stack, bucket.slot))
+    return Heap(rate, Numbers(*(sum(bucket.numbers[at] for bucket in buckets) for at in range(4))), buckets)

@@ -1,5 +1,6 @@
 """Reads a stacks file, which `record` writes beside a trace: what it says of the recording, and the frames of each stack."""
 
+import re
 from typing import Dict, Iterable, List, NamedTuple, Optional
 
 from goheap_tools.formats.frames import shown_frames
@@ -9,6 +10,13 @@ from goheap_tools.tool import Unusable, kind_of, named, reading
 FIRST = "# goheap stacks "
 # What the runtime describes a goroutine by, and the function that makes it.
 GOROUTINE_TYPE, GOROUTINE_FRAME = "runtime.g", "runtime.malg"
+
+
+class Memory(NamedTuple):
+    """Pages of a real run at a mark end that a report does not tell: those of the heap as far as it grew, and of goroutine stacks."""
+
+    heap: int
+    stacks: int
 
 
 class Stacks(NamedTuple):
@@ -23,6 +31,12 @@ class Stacks(NamedTuple):
         have: there stands who started the goroutine."""
         frames = shown_frames(self.frames.get(number, []))
         return [GOROUTINE_FRAME, *frames] if self.types.get(number) == GOROUTINE_TYPE else frames
+
+    def memory(self, mark_end: int) -> Optional[Memory]:
+        """What a real run had at this mark end, where the header tells."""
+        told = self.header.get("memory", "").split(" ")
+        found = re.fullmatch("([0-9]+):([0-9]+)", told[mark_end - 1]) if 0 < mark_end <= len(told) else None
+        return Memory(int(found[1]), int(found[2])) if found else None
 
     def number(self, name: str) -> Optional[int]:
         """The number that the header has under this name, or nothing."""

@@ -8,13 +8,13 @@ import heapq
 import itertools
 from array import array
 from collections import Counter
-from typing import Any, Callable, Dict, FrozenSet, Hashable, Iterable, Iterator, List, NoReturn, Sequence, Set, Tuple
+from typing import Any, Callable, Dict, FrozenSet, Hashable, Iterable, Iterator, List, NamedTuple, NoReturn, Optional, Sequence, Set, Tuple
 
 from goheap_tools import tool
 from goheap_tools.formats import companions
 from goheap_tools.formats.frames import name_of, shown_frames
 from goheap_tools.formats.report import MISSED, Report, report_in
-from goheap_tools.formats.stacks import Stacks
+from goheap_tools.formats.stacks import Memory, Stacks
 from goheap_tools.formats.traces import REAL, Trace, trace_in
 from goheap_tools.heap import pages, tiny
 from goheap_tools.heap.classes import BASE, PAGE, SLOTS, slot_of
@@ -93,6 +93,17 @@ class Filled:
                 self.used[span] += 1
 
 
+class InGo(NamedTuple):
+    """Bytes by the names of `runtime.MemStats`; `other` is what the runtime has of the heap beside objects and stacks: bitmaps and work buffers."""
+
+    when: str
+    heap_in_use: int
+    stack_in_use: int
+    heap_idle: int
+    heap_released: int
+    other: int
+
+
 class Pins:
     """The heap at a mark end: behind the journal's lines of the cycles before it, and behind its sweep, which gives back each span of
     which nothing is marked. Of the spans that are kept, by rising page: first page, pages, span class, slots, bytes of a slot, live objects,
@@ -106,7 +117,9 @@ class Pins:
         replay.go_on(mark_end)
         self.backed, self.region = replay.pages.backed, replay.pages.kinds.translate(AS_FREE)
         self.set_spans(replay.pages)
-        self.others = others_of(replay.pages)
+        self.before_sweep = sum(self.pages)  # pages of the spans that the mark end found
+        self.others, self.held_pages = others_of(replay.pages), sum(replay.pages.held.values())
+        self.memory: Optional[Memory] = None  # of a real run, where the stacks tell
         self.missed = self.missed_bytes = 0
         stacks = max(trace.stacks, default=-1) + 1
         self.own, self.live = array("Q", bytes(8 * stacks)), array("I", bytes(4 * stacks))  # bytes and objects by stack
@@ -215,6 +228,16 @@ class Pins:
     def stacks_of(self, span: int) -> array:
         """The stack of each live object of a span."""
         return self.sorted[self.begins[span] : self.begins[span + 1]]
+
+    def in_go_s_words(self) -> List[InGo]:
+        """What `runtime.MemStats` says of a real run, before the mark end's sweep and behind it; nothing where the stacks do not tell."""
+        if self.memory is None:
+            return []
+        told, rows = self.memory, []
+        for when, spans in (("before its sweep", self.before_sweep), ("behind it", sum(self.pages))):
+            pages = spans, told.stacks, told.heap - spans - self.held_pages, told.heap - self.backed, self.held_pages - told.stacks
+            rows.append(InGo(when, *(count * PAGE for count in pages)))
+        return rows
 
     def holders(self) -> Iterator[FrozenSet[int]]:
         """For each span the stacks with live objects in it."""
@@ -397,4 +420,6 @@ def pins_of(trace_path: str, report_path: str, options: argparse.Namespace, stac
     report = report_in(report_path)
     if len(report.addresses) != len(trace.sizes):
         raise Unusable(f"{report.name} has {len(report.addresses)} objects, and {trace.name} has {len(trace.sizes)}: it is no report of this trace")
-    return Pins(trace, report, peak(report, trace) if options.peak else options.at or count)
+    pins = Pins(trace, report, peak(report, trace) if options.peak else options.at or count)
+    pins.memory = stacks.memory(pins.mark_end)
+    return pins

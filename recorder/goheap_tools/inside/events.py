@@ -17,6 +17,7 @@ COUNTS, PROCESSORS_CHANGE = 32, 33
 SPAN, PAGES, BLOCK = 48, 49, 50
 
 POINTER_FREE, LEADS, SAMPLED, NOT_ASKED = 1, 2, 4, 8
+STACKS = 1  # the use of runs that are goroutines' stacks
 USES = ("objects", "stacks", "bitmaps", "work buffers", "not objects")
 
 

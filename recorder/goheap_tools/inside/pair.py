@@ -65,6 +65,8 @@ class Pair:
         self.blocks: dict[int, tuple[int, int]] = {}  # by processor: first page, and bits of the pages that are left
         self.processors = 1
         self.end = BASE + 1
+        self.stacks_held = 0  # pages of goroutine stacks
+        self.memory: list[tuple[int, int]] = []  # at each mark end: pages of the heap, and of goroutine stacks
         self.behind = 0  # objects behind the last mark end that was swept whole, and the next one
         self.actions: dict[type, Callable[[Any], None]] = {
             form.Object: self.object, form.Run: self.run, form.Block: self.block, form.Sweep: self.sweep, form.Flush: self.flush,
@@ -85,6 +87,7 @@ class Pair:
         if type(event) is form.Counts:
             if event.kind == form.MARK_END:
                 self.cycles.append(Cycle())
+                self.memory.append((page_of(self.end), self.stacks_held))
         elif action := self.actions.get(type(event)):
             action(event)
 
@@ -114,6 +117,8 @@ class Pair:
 
     def run(self, event: form.Run) -> None:
         page, is_span, who = page_of(event.address), event.use == 0, ""
+        if event.use == form.STACKS:
+            self.stacks_held += -event.pages if event.kind == form.GIVE else event.pages
         if event.kind == form.GIVE:
             self.line(f"{'give' if is_span else 'free'} {page} {event.pages}")
             for at in range(page, page + event.pages):

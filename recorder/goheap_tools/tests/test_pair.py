@@ -14,10 +14,10 @@ from goheap_tools.inside.pair import Pair, neighbours, pair_of, report_lines, tr
 from goheap_tools.inside.recording import Recording
 from goheap_tools.tool import Unusable
 
-from . import test_inside_runs
+from . import test_inside_runs, verdict
 from .go_tools import recorded, toolchains
 
-RUNS = ("small", "tiny", "large", "finalizers", "given", "processors", "forty")
+RUNS = ("small", "tiny", "large", "finalizers", "given", "processors", "forty", "few")
 
 
 def judged(trace: str, text: str):
@@ -33,6 +33,11 @@ def texts(path: str):
 
 
 class RealRuns(test_inside_runs.Runs):
+    @classmethod
+    def setUpClass(cls):
+        super().setUpClass()
+        print(f"the real runs are {verdict.name()}", flush=True)
+
     def test_each_rule_is_obeyed(self):
         newest = max(toolchains())
         for version in toolchains():
@@ -43,7 +48,7 @@ class RealRuns(test_inside_runs.Runs):
                         path = self.path(f"{version}-{processors}-{run}")
                         self.run_program([program, run], path, processors=processors)
                         trace, text, pair = texts(path)
-                        self.assertIsNone(judged(trace, text))
+                        self.assertEqual(verdict.verdict(trace, text)[0], "sound")
                         self.assertGreater(pair.last, 0)
                         self.assertTrue(any(line.startswith("s ") and not line.endswith(" 0\n") for line in text.splitlines(True)), "nothing was freed")
 

@@ -22,6 +22,9 @@ PARTS = {
 }
 
 
+GO_TITLE = "In Go's words"
+
+
 def percent(part: float, total: float) -> str:
     return f"{100 * part / total:.1f}%" if total else "0.0%"
 
@@ -44,7 +47,14 @@ def sum_lines(pins: Pins) -> Iterator[str]:
     for name, size in pins.sums().items():
         emptied = f", {sum(count for _, count in pins.emptied) * PAGE:,} of them in spans that this mark end emptied" if name == "free pages" and pins.emptied else ""
         yield f"{size:>13,} {percent(size, backed):>6}  {PARTS[name]}{emptied}"
-    yield f"{backed:>13,} 100.0%  backed; in Go's words HeapInuse {spans * PAGE:,}, HeapIdle less HeapReleased {backed - (spans + held) * PAGE:,}"
+    if not pins.memory:
+        yield f"{backed:>13,} 100.0%  backed; in Go's words HeapInuse {spans * PAGE:,}, HeapIdle less HeapReleased {backed - (spans + held) * PAGE:,}"
+        return
+    yield f"{backed:>13,} 100.0%  backed"
+    yield ""
+    yield f"{GO_TITLE:<17} {'HeapInuse':>13} {'StackInuse':>13} {'HeapIdle':>13} {'HeapReleased':>13} {'other':>11}"
+    for row in pins.in_go_s_words():
+        yield f"{row.when:<17} {row.heap_in_use:>13,} {row.stack_in_use:>13,} {row.heap_idle:>13,} {row.heap_released:>13,} {row.other:>11,}"
 
 
 def sum_rows(pins: Pins) -> Iterator[Row]:
@@ -52,6 +62,11 @@ def sum_rows(pins: Pins) -> Iterator[Row]:
     yield from pins.sums().items()
     yield "backed", pins.backed * PAGE
     yield "not placed", pins.missed_bytes
+
+
+def memory_rows(pins: Pins) -> Iterator[Row]:
+    yield "when", "HeapInuse", "StackInuse", "HeapIdle", "HeapReleased", "other"
+    yield from pins.in_go_s_words()
 
 
 class Without:
@@ -148,6 +163,8 @@ def function_rows(pins: Pins, names: Names, options: argparse.Namespace) -> Iter
 def tables(pins: Pins, names: Names, options: argparse.Namespace) -> List[Row]:
     """The tables as rows of plain numbers, each row led by its table's name, and each table by a row of its columns' names."""
     found = [("sum", sum_rows(pins))]
+    if pins.memory:
+        found.append(("memory", memory_rows(pins)))
     if options.without:
         found.append(("without", Without(pins, names, options.without).rows()))
     found.append(("class", class_rows(pins)))

@@ -7,6 +7,7 @@ from typing import Any, Callable, Dict, Iterable, Iterator, List
 from goheap_tools.formats.frames import name_of, type_of
 from goheap_tools.formats.report import Bucket
 from goheap_tools.formats.stacks import Stacks
+from goheap_tools.heap.classes import PAGE
 from goheap_tools.heap.profile import Profile, Row
 from goheap_tools.tool import plain, size_text
 
@@ -73,7 +74,7 @@ class Table:
         profile, names = self.profile, self.names()
         shown = names[: self.options.top]
         total, so_far = profile.all.used, 0.0
-        yield from heading(profile, names, shown, total, self.what, self.options)
+        yield from heading(profile, self.stacks, names, shown, total, self.what, self.options)
         yield f"{'flat':>10} {'flat%':>6} {'sum%':>6}{self.middle_titles()}{growth_titles(profile)}  {self.what_title()}"
         for name in shown:
             row = profile.rows[name]
@@ -173,7 +174,13 @@ class Buckets(Table):
                 yield " " * (66 + len(growth_titles(self.profile))) + "    " + frame
 
 
-def heading(profile: Profile, names: List[Any], shown: List[Any], total: float, what: str, options: argparse.Namespace) -> Iterator[str]:
+def beside(profile: Profile, stacks: Stacks) -> str:
+    """How much the goroutines' stacks had at the mark end, where a real run tells."""
+    memory = stacks.memory(profile.last)
+    return f"; goroutine stacks are not in this: {size_text(memory.stacks * PAGE)}" if memory else ""
+
+
+def heading(profile: Profile, stacks: Stacks, names: List[Any], shown: List[Any], total: float, what: str, options: argparse.Namespace) -> Iterator[str]:
     """The two lines above the table."""
     rows = profile.rows
     part = sum(rows[name].used for name in shown)
@@ -185,5 +192,5 @@ def heading(profile: Profile, names: List[Any], shown: List[Any], total: float, 
         counted = "all objects" if options.rate == 1 else f"the objects sampled at rate {options.rate}, as they are counted"
     else:
         counted = "the sampled objects as they are counted (all objects if the rate was 1; else see --scale)"
-    yield f"Mark end {profile.last}{options.place}: {size_text(total)} in use, {size_text(profile.all.allocated)} allocated; {counted}{''.join(options.filters)}"
+    yield f"Mark end {profile.last}{options.place}: {size_text(total)} in use, {size_text(profile.all.allocated)} allocated; {counted}{''.join(options.filters)}{beside(profile, stacks)}"
     yield f"Showing {len(shown)} of {len(names)} {what} {'' if options.sort == 'allocated' else 'in use'}".rstrip() + f", accounting for {size_text(part)}, {percent(part, total)} of {size_text(total)} total"
