@@ -29,6 +29,8 @@ from goheap_tools.tool import number, size_text
 
 # Of what is left out or guessed, a word is said where it is more than one in so many.
 RARE = 1000
+# Bytes of buffers for what children write, of which a word is said.
+MUCH = 1 << 16
 
 
 def options_of(words: List[str]) -> argparse.Namespace:
@@ -108,6 +110,9 @@ def tell_last(recorder: Recorder) -> None:
 def tell_lost(recorder: Recorder, log: Log) -> None:
     """Says what the trace leaves out or guesses, where it is more than a trifle."""
     shows = lambda count, of: count and (recorder.options.verbose or count * RARE > of)
+    if recorder.children_bytes >= MUCH:
+        say(f"{size_text(recorder.children_bytes)} of what was allocated are buffers in which the program collects what its children write (os/exec). A child that is a Go program inherits GODEBUG, so its own log"
+            " is in there: that much is of the recording, and not of the program")
     if shows(recorder.broken, recorder.allocations + recorder.frees):
         first = recorder.first_broken
         say(f"{recorder.broken} blocks of the log were not whole and are left out; the first at line {first.line}: {first.what}")
@@ -185,6 +190,7 @@ def stacks_header(recorder: Recorder, digest: str) -> Iterator[str]:
         "mark ends": trace.mark_ends,
         "behind": trace.behind,
         "stacks": len(recorder.frames),
+        "frames": " ".join(map(str, recorder.stack_bytes)) if any(recorder.stack_bytes) else None,
         "slots": slots_text(recorder),
         "limit": recorder.full,
         "from mark end": options.from_mark_end,

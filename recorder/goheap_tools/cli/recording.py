@@ -96,6 +96,10 @@ class TraceText:
         yield "end\n"
 
 
+# The function that copies what a child writes into a buffer of the program's (os/exec).
+OF_CHILDREN = "os/exec.(*Cmd).writerDescriptor"
+
+
 class Recorder:
     """Goes through a log, and makes the trace one cycle behind it: who a mark end found alive is known at the next one."""
 
@@ -114,6 +118,10 @@ class Recorder:
         self.next_object = self.log_mark_ends = 0
         self.stacks = {}  # numbers of the stacks, by their frames and type
         self.frames = []  # the line of each stack
+        self.of_children = set()  # the stacks by which the program collects what its children write
+        self.children_bytes = 0  # allocated by these
+        self.stack_bytes = []  # at each mark end of the trace, what the goroutines' frames take of their stacks
+        self.old_stack_bytes = 0  # the same at the last mark end of the log
         self.procs = options.procs
         self.live_bytes = self.peak = 0
         self.is_told = False
@@ -167,6 +175,8 @@ class Recorder:
                 raise Full("stacks")
             self.stacks[places, functions, type_name] = number
             frames = "\t".join(f"{name} {self.trimmed(place)}" for name, place in zip(functions, places))
+            if any(name.startswith(OF_CHILDREN) for name in functions):
+                self.of_children.add(number)
             self.frames.append(f"{number}\t{type_name or ''}\t{frames}\n")
         return number
 
@@ -207,7 +217,10 @@ class Recorder:
             return
         if self.next_object - (self.base or 0) == MOST_OBJECTS:
             raise Full("objects")
-        line = f"a {proc} {size} {kind} {self.stack(event.places, event.functions, event.type_name)}\n"
+        stack = self.stack(event.places, event.functions, event.type_name)
+        if stack in self.of_children:
+            self.children_bytes += size
+        line = f"a {proc} {size} {kind} {stack}\n"
         if self.spool is None:
             self.trace.allocate(line)
         else:
@@ -247,6 +260,7 @@ class Recorder:
         if self.early is not None:
             self.begin()
         self.trace.collect(self.options.distance, list(self.old))
+        self.stack_bytes.append(self.old_stack_bytes)
         for line in self.spool:
             self.trace.allocate(line)
         self.spool = []
@@ -280,6 +294,7 @@ class Recorder:
         self.spool = []
         self.old = dict.fromkeys(self.live.values())
         self.waiting, self.swept = event.waiting, False
+        self.old_stack_bytes = sum(goroutine.stack for goroutine in event.goroutines)
         return True
 
     def finish(self) -> None:

@@ -23,6 +23,9 @@ GOROUTINE = re.compile(r"goroutine (\d+) \[")
 MALLOCGC = re.compile(r"runtime\.mallocgc\((0x[0-9a-f]+), (0x[0-9a-f]+\??),")
 PROCS = re.compile(r"runtime\.procresize\((0x[0-9a-f]+)\??\)")
 PLACE = re.compile(r"\t(.+:\d+)(?: \+0x[0-9a-f]+)?(?: fp=.*)?\s*$")
+STATE = re.compile(r"goroutine \d+ \[([^\]]*?)(?:, \d+ minutes)?(, locked to thread)?\]")
+EXTENT = re.compile(r" fp=0x([0-9a-f]+) sp=0x([0-9a-f]+)")
+CREATED = re.compile(r"created by (.*?)(?: in goroutine \d+)?\s*$")
 ELIDED = re.compile(r"\.\.\.(?:additional|\d+) frames elided\.\.\.")
 
 # The fronts of whole blocks, and the program counters of a stack.
@@ -62,9 +65,23 @@ class Free(NamedTuple):
     slot: int
 
 
+class Goroutine(NamedTuple):
+    """A goroutine as a mark end finds it."""
+
+    state: str  # what it does or waits for, as the runtime says it
+    frames: Tuple[str, ...]  # FUNCTION FILE:LINE, the innermost first; none where it runs on another thread
+    created: str  # the function that started it, or nothing
+    stack: int  # bytes of its stack that its frames take; 0 where they are not told
+
+    def is_the_runtime_s(self) -> bool:
+        """Whether the runtime started it, for work of its own."""
+        return self.created.startswith("runtime.") and all(frame.startswith("runtime.") for frame in self.frames)
+
+
 class Collection(NamedTuple):
     line: int
     waiting: FrozenSet[int] = frozenset()  # the goroutines that wait in `runtime.GC` for this collection and its sweep
+    goroutines: Tuple[Goroutine, ...] = ()
 
 
 class Broken(NamedTuple):
@@ -203,6 +220,8 @@ class Stack:
         self.places, self.functions = [], []
         self.foreign: Any = []
         self.line: Any = None
+        self.state = self.created = ""
+        self.top = self.bottom = 0
 
     def take(self, line: str) -> Any:
         if line.startswith("\t"):
@@ -247,6 +266,24 @@ class Stack:
             self.goroutine = int(found.group(1))
         elif not ELIDED.match(line):
             self.foreign.append(line)
+
+    def take_extent(self, line: str) -> None:
+        """Takes in what a line of a mark end's block says of the goroutine beside its frames."""
+        if line.startswith("\t"):
+            if found := EXTENT.search(line):
+                self.top = int(found.group(1), 16)
+                self.bottom = self.bottom or int(found.group(2), 16)
+        elif found := STATE.match(line):
+            self.state = self.state or found.group(1) + (found.group(2) or "")
+        elif found := CREATED.match(line):
+            self.created = found.group(1)
+
+    def seen(self) -> Any:
+        """The goroutine whose stack it is, or nothing."""
+        if self.goroutine is None:
+            return None
+        frames = tuple(f"{name} {place}" for name, place in zip(self.functions, self.places))
+        return Goroutine(self.state, frames, self.created, max(self.top - self.bottom, 0))
 
     def frames(self) -> Any:
         """Places, functions, and the processors that the runtime's start makes."""
@@ -408,7 +445,7 @@ class Reader:
 
     def collection_events(self, number: int, first: str) -> Iterator[Any]:
         """The block has a part for each goroutine, behind a blank line."""
-        waiting, foreign, stack = set(), [], Stack()
+        waiting, foreign, stack, goroutines = set(), [], Stack(), []
         is_whole = False
         if (line := self.lines.next()) is not None and not line.isspace():
             self.lines.put_back(line)
@@ -422,14 +459,17 @@ class Reader:
             if is_whole:
                 break
             if line.isspace():
+                goroutines.append(stack.seen())
                 stack = Stack()
                 continue
             stack.take(line)
+            stack.take_extent(line)
             if stack.waits:
                 waiting.add(stack.goroutine)
             foreign += stack.foreign
             stack.foreign = []
-        yield Collection(number, frozenset(waiting))
+        goroutines.append(stack.seen())
+        yield Collection(number, frozenset(waiting), tuple(filter(None, goroutines)))
         if not is_whole:
             yield Broken(number, "the log ends within a tracegc block")
         for line in foreign:

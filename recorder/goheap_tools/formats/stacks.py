@@ -38,6 +38,12 @@ class Stacks(NamedTuple):
         found = re.fullmatch("([0-9]+):([0-9]+)", told[mark_end - 1]) if 0 < mark_end <= len(told) else None
         return Memory(int(found[1]), int(found[2])) if found else None
 
+    def frames_bytes(self, mark_end: int) -> int:
+        """What the goroutines' frames took of their stacks at this mark end, where a log told it; or 0."""
+        told = self.header.get("frames", "").split(" ")
+        found = told[mark_end - 1] if 0 < mark_end <= len(told) else ""
+        return int(found) if found.isascii() and found.isdigit() else 0
+
     def number(self, name: str) -> Optional[int]:
         """The number that the header has under this name, or nothing."""
         value = self.header.get(name, "")

@@ -11,7 +11,7 @@ import unittest
 
 from goheap_tools.tests.testing import HERE
 
-TOOLS = ("compare", "explain", "facts", "leaks", "look", "pair", "picture", "pins", "pprof", "record")
+TOOLS = ("compare", "explain", "facts", "goroutines", "leaks", "look", "pair", "picture", "pins", "pprof", "record")
 
 
 def functions(path):

@@ -175,9 +175,11 @@ class Buckets(Table):
 
 
 def beside(profile: Profile, stacks: Stacks) -> str:
-    """How much the goroutines' stacks had at the mark end, where a real run tells."""
-    memory = stacks.memory(profile.last)
-    return f"; goroutine stacks are not in this: {size_text(memory.stacks * PAGE)}" if memory else ""
+    """How much the goroutines' stacks had at the mark end, where a real run tells; or what their frames took of them, where a log does."""
+    memory, frames = stacks.memory(profile.last), stacks.frames_bytes(profile.last)
+    if memory:
+        return f"; goroutine stacks are not in this: {size_text(memory.stacks * PAGE)}"
+    return f"; goroutine stacks are not in this, of which frames take {size_text(frames)}" if frames else ""
 
 
 def heading(profile: Profile, stacks: Stacks, names: List[Any], shown: List[Any], total: float, what: str, options: argparse.Namespace) -> Iterator[str]:
