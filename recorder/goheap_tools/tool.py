@@ -7,6 +7,7 @@ import signal
 import stat
 import sys
 import tempfile
+import time
 from typing import Any, Callable, IO, List, NoReturn, Optional
 
 from goheap_tools import progress
@@ -92,6 +93,14 @@ def size_text(size: float) -> str:
         if abs(size) >= unit:
             return f"{size / unit:.2f}{name}"
     return f"{size:.0f}B"
+
+
+def day_text(seconds: float) -> Optional[str]:
+    """The day of a time of the wall's clock, in this place's zone; nothing of a time that there is not."""
+    try:
+        return time.strftime("%Y-%m-%d", time.localtime(seconds))
+    except (OverflowError, ValueError, OSError):
+        return None
 
 
 def plain(value: float) -> float:

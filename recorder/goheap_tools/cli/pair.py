@@ -17,6 +17,7 @@ from goheap_tools import tool
 from goheap_tools.inside.names import Names, names_of
 from goheap_tools.inside.pair import CHUNK_PAGES, Pair, pair_of, report_lines, trace_lines
 from goheap_tools.inside.recording import Recording
+from goheap_tools.tool import day_text
 
 
 def options_of(words: Sequence[str]) -> argparse.Namespace:
@@ -32,6 +33,7 @@ def stacks_header(recording: Recording, pair: Pair, digest: str) -> Iterator[str
     values = {
         "program": os.path.basename(recording.header.program),
         "go": recording.header.go_version,
+        "date": day_text(recording.header.wall),
         "rate": 1,
         "chunks": pair.chunks,
         "procs": pair.processors,
@@ -43,7 +45,7 @@ def stacks_header(recording: Recording, pair: Pair, digest: str) -> Iterator[str
         "digest": digest,
     }
     yield "# goheap stacks 2\n"
-    yield from (f"# {name}\t{value}\n" for name, value in values.items())
+    yield from (f"# {name}\t{value}\n" for name, value in values.items() if value is not None)
 
 
 def stack_lines(recording: Recording, pair: Pair, names: Names) -> Iterator[str]:

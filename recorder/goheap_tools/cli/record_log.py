@@ -14,6 +14,7 @@ import hashlib
 import os
 import shutil
 import sys
+import time
 from collections import Counter
 from typing import Any, Iterator, List, Optional
 
@@ -177,12 +178,18 @@ def slots_text(recorder: Recorder) -> Optional[str]:
     return " ".join(f"{slot}:{count}" for slot, count in sorted(slots.items()) if slot)
 
 
+def recorded_at(options: argparse.Namespace) -> float:
+    """When the program ran: now, or when its log was written."""
+    return os.path.getmtime(options.log) if options.log and os.path.isfile(options.log) else time.time()
+
+
 def stacks_header(recorder: Recorder, digest: str) -> Iterator[str]:
     """The first lines of the stacks file: what the other tools have to know of the recording."""
     trace, options, program = recorder.trace, recorder.options, recorder.program
     values = {
         "program": program and program.name,
         "go": program and program.go_version,
+        "date": tool.day_text(recorded_at(options)),
         "rate": options.rate,
         "chunks": recorder.chunks(),
         "procs": recorder.procs or 1,

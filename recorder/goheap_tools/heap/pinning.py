@@ -116,6 +116,7 @@ class Pins:
         replay = Replay(report, trace.version)
         replay.go_on(mark_end)
         self.backed, self.region = replay.pages.backed, replay.pages.kinds.translate(AS_FREE)
+        self.kinds = bytes(replay.pages.kinds)  # before the sweep, as `pages` has them
         self.set_spans(replay.pages)
         self.before_sweep = sum(self.pages)  # pages of the spans that the mark end found
         self.others, self.held_pages = others_of(replay.pages), sum(replay.pages.held.values())

@@ -2,7 +2,7 @@
 
 from array import array
 from collections import defaultdict
-from typing import Dict, Iterator, List, NamedTuple, Tuple
+from typing import Dict, Iterator, List, NamedTuple
 
 from goheap_tools.formats.journal import MAKING_LINES, Give
 from goheap_tools.formats.report import MISSED, Report
@@ -17,26 +17,26 @@ NEVER = 1 << 32
 
 
 class Life(NamedTuple):
-    """A span from the cycle in which it was made to the one in which it went back."""
+    """A span from the cycle in which it was made to the one in which it went back; its number is that of the journal line that made it."""
 
     begin: int
     end: int
     page: int
     span_class: int
+    number: int
 
 
 def lives_of(report: Report) -> Dict[int, List[Life]]:
     """The spans that a page was in, by page."""
     found: Dict[int, List[Life]] = defaultdict(list)
-    made: Dict[int, Tuple[int, int]] = {}  # by first page: how many pages, and where they stand in their lists
-    for line in report.journal:
+    made: Dict[int, int] = {}  # pages by first page
+    for number, line in enumerate(report.journal):
         if isinstance(line, MAKING_LINES):
-            made[line.page] = line.pages, line.cycle
+            made[line.page] = line.pages
             for page in range(line.page, line.page + line.pages):
-                found[page].append(Life(line.cycle, NEVER, line.page, line.span_class))
+                found[page].append(Life(line.cycle, NEVER, line.page, line.span_class, number))
         elif isinstance(line, Give) and line.page in made:
-            pages, _ = made.pop(line.page)
-            for page in range(line.page, line.page + pages):
+            for page in range(line.page, line.page + made.pop(line.page)):
                 found[page][-1] = found[page][-1]._replace(end=line.cycle)
     return found
 

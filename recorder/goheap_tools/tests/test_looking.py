@@ -8,7 +8,8 @@ from goheap_tools.formats.journal import Give, Miss, Scav, Take
 from goheap_tools.heap import classes
 from goheap_tools.tests.testing import Folder, block, data, path_of, rows, run
 from goheap_tools.tool import Unusable
-from goheap_tools.views import course, picture
+from goheap_tools.heap import pages
+from goheap_tools.views import course, picture, sheet
 
 AS_COUNTED = "the sampled objects as they are counted (all objects if the rate was 1; else see --scale)"
 MISSED = "leaks: {} of {} objects ({}) found no room in the region, and are counted nowhere: the table is too low (--trace without a report counts them too)\n"
@@ -181,13 +182,13 @@ class Picture(Folder):
         self.assertEqual((seen.backed, seen.in_spans, seen.spans), ([1, 6, 6, 1], [1, 6, 1, 1], [1, 2, 1, 1]))
         self.assertEqual((dict(seen.kept_bytes), seen.cycles), ({1: 48 + 40960, 2: 24}, [0, 0, 2, 2]))
         self.assertEqual(picture.by_mark_end(report.read_report(lines.splitlines(True)).sweeps), (1, [(1, 3, 1), (2, 1, 2)]))
-        colours = {name: bytes.fromhex(course.KINDS[getattr(course, name)][0][1:]) for name in ("UNTOUCHED", "SMALL", "LARGE_PLAIN", "RELEASED")}
+        colours = {name: bytes.fromhex(sheet.KINDS[getattr(pages, name)][0][1:]) for name in ("UNTOUCHED", "SMALL", "LARGE_PLAIN", "RELEASED")}
         self.assertEqual(seen.map[0], [colours["SMALL"]] + 5 * [colours["UNTOUCHED"]])
         self.assertEqual((seen.map[1][1], seen.map[3][1]), (colours["LARGE_PLAIN"], colours["RELEASED"]))
 
     def test_a_row_of_several_pages(self):
         # Half white, half as small objects with pointers are.
-        self.assertEqual(course.Shades().of(bytes([course.UNTOUCHED, course.SMALL])), bytes((255 + one) // 2 for one in bytes.fromhex("1f5fa8")))
+        self.assertEqual(course.Shades().of(bytes([pages.UNTOUCHED, pages.SMALL])), bytes((255 + one) // 2 for one in bytes.fromhex(sheet.KINDS[pages.SMALL][0][1:])))
 
     def test_many_pages_and_mark_ends(self):
         given = "j 0 0 take 0 40000 0\n" + "".join(f"j {number} {number} give 0 1\n" for number in range(1, 1001))

@@ -625,7 +625,7 @@ class PinsPicture(Folder):
 
     def test_spans_and_who_holds_them(self):
         # Page 0: two of sixteen slots, of stacks 1 and 2. Page 1: a full span of stack 3. Pages 2 to 6: a large object of stack 1; pages 7 to 11
-        # one that died. Page 12, in the next row of 32 pages: none. Then 8 spans of 4 pages, the sixth of which goes over the row's end.
+        # one that died. Then 8 spans of 4 pages.
         small = ["a 0 500 n 1", "a 0 500 n 2", *["a 0 512 n 9"] * 14]
         full = [*["a 0 2048 s 3"] * 4]
         trace = trace_of(*small, *full, "a 0 40000 s 1", "a 0 40000 s 1", *["a 0 32768 n 4"] * 8, "gc 1", "m 0 1", "m 16 20", "m 22 29", "a 0 8 n 1")
@@ -640,11 +640,11 @@ class PinsPicture(Folder):
         self.assertEqual(titles["page 2 to 6"][:3], ["page 2 to 6, 0xc000004000: a large object with pointers", "1 of 1 slots live, 40,000 of 40,960 bytes", "pinned by one stack:"])
         # Two sixteenths are the first eighth, and all slots the last.
         self.assertEqual([paths[name].parentNode.getAttribute("id") for name in ("page 0", "page 1", "page 2 to 6")], ["s0", "s7", "s7"])
-        # A page is 28 wide where 32 stand in a row.
-        self.assertEqual(paths["page 0"].getAttribute("d"), "M90 78h28v28h-28z")
-        self.assertEqual(paths["page 2 to 6"].getAttribute("d"), "M146 78h140v28h-140z")
-        self.assertEqual(paths["page 28 to 31"].getAttribute("d"), "M874 78h112v28h-112z")
-        self.assertEqual(paths["page 32 to 35"].getAttribute("d"), "M90 106h112v28h-112z")
+        # A page is 56 wide where 16 stand in a row, the fewest.
+        self.assertEqual(paths["page 0"].getAttribute("d"), "M90 78h56v56h-56z")
+        self.assertEqual(paths["page 2 to 6"].getAttribute("d"), "M202 78h280v56h-280z")
+        self.assertEqual(paths["page 28 to 31"].getAttribute("d"), "M762 134h224v56h-224z")
+        self.assertEqual(paths["page 32 to 35"].getAttribute("d"), "M90 190h224v56h-224z")
         # The stacks by what they pin, and the spans of each.
         self.assertEqual([paths[name].getAttribute("class") for name in ("page 0", "page 1", "page 2 to 6", "page 12 to 15")], ["", "k2", "k1", "k0"])
         found = {one.getAttribute("id"): [cell.firstChild.data for cell in one.getElementsByTagName("text")] for one in page.getElementsByTagName("g") if one.getAttribute("id").startswith("k")}
@@ -655,17 +655,17 @@ class PinsPicture(Folder):
         for part in ("a & b", "Mark end 1 of 1: 44 pages backed, 39 of them in 11 spans kept.", "0 to 12.5 %: 1", "12.5 to 25 %: 0", "87.5 to 100 %: 10", "free, backed"):
             self.assertIn(part, texts)
         # What is free and backed: the five pages of the object that died.
-        self.assertIn("M286 78h140v28h-140z", [one.getAttribute("d") for one in page.getElementsByTagName("path")])
+        self.assertIn("M482 78h280v56h-280z", [one.getAttribute("d") for one in page.getElementsByTagName("path")])
 
     def test_a_span_over_the_end_of_a_row(self):
         page = self.drawn(trace_of("a 0 212992 n 1", "a 0 65536 n 1", "gc 1", "m 0 1"))
-        self.assertIn("M818 78h168v28h-168zM90 106h56v28h-56z", [one.getAttribute("d") for one in page.getElementsByTagName("path")])
+        self.assertIn("M650 134h336v56h-336zM90 190h112v56h-112z", [one.getAttribute("d") for one in page.getElementsByTagName("path")])
 
     def test_nothing_and_much(self):
         page = self.drawn(trace_of("gc 1"))
         for part in ("Mark end 1 of 1: 0 pages backed, 0 of them in 0 spans kept.", "no stack alone pins a span"):
             self.assertIn(part, [one.firstChild.data for one in page.getElementsByTagName("text")])
-        # 1024 pages of one object each: 64 pages in a row are as high as half the width.
+        # 1024 pages of one object each.
         page = self.drawn(trace_of(*["a 0 8192 n 1"] * 1024, "gc 1", "m 0 1023", "gc 1", "m 1023 1023"), "--at", "1")
         self.assertEqual(len([one for one in page.getElementsByTagName("path") if one.getAttribute("class") == "k0"]), 1024)
         self.assertIn("Mark end 1 of 2: 1,024 pages backed, 1,024 of them in 1,024 spans kept.", [one.firstChild.data for one in page.getElementsByTagName("text")])

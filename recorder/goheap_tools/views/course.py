@@ -10,25 +10,14 @@ from goheap_tools.formats.journal import MAKING_LINES, REAL_LINES, Give, Line, M
 from goheap_tools.formats.report import Report, Sweep
 from goheap_tools.formats.traces import REAL, Trace
 from goheap_tools.heap.classes import BASE, PAGE, PAGES, SLOTS
-from goheap_tools.heap.pages import (
-    CACHED, FREE, HELD, LARGE, LARGE_PLAIN, LENT, MOST_PAGES, RELEASED, SMALL, SMALL_PLAIN, SPAN_KINDS, UNTOUCHED, Pages,
-)  # fmt: skip
+from goheap_tools.heap.pages import FREE, MOST_PAGES, SPAN_KINDS, Pages
 from goheap_tools.tool import Unusable
+from goheap_tools.views.painted import Painted
+from goheap_tools.views.sheet import FIRST_FUNCTION, FUNCTION_COLOURS, KINDS
 
-# What a page is shown as: its colour, and what the legend says.
-KINDS = {
-    UNTOUCHED: ("#ffffff", "never used"),
-    FREE: ("#c9c9c9", "free, backed"),
-    RELEASED: ("#bfe3c6", "free, scavenged"),
-    SMALL: ("#1f5fa8", "span of small objects with pointers"),
-    SMALL_PLAIN: ("#7fb3e6", "span of small objects without pointers"),
-    LARGE: ("#b3541e", "large object with pointers"),
-    LARGE_PLAIN: ("#f0b070", "large object without pointers"),
-    CACHED: ("#e6d36a", "in a page cache"),
-    HELD: ("#9c7bb8", "stacks, and other uses"),
-    LENT: ("#7fd1c7", "out to the scavenger"),
-}
-RGB = [bytes.fromhex(KINDS[kind][0][1:]) for kind in sorted(KINDS)]
+RGB = [bytes.fromhex(colour[1:]) for colour in (*(KINDS[kind][0] for kind in sorted(KINDS)), *FUNCTION_COLOURS)]
+# What a page in a span can be shown as.
+SHOWN_SPANS = (*SPAN_KINDS, *range(FIRST_FUNCTION, FIRST_FUNCTION + len(FUNCTION_COLOURS)))
 MOST_CYCLES = 1_000_000
 
 
@@ -123,7 +112,8 @@ class Course:
     """What is drawn: the columns of the map, and for each its backed pages, pages in spans, live spans and cycle; the bytes that each
     mark end kept; the columns of the misses; the lives of spans; and the spans and pages as the last mark end found them."""
 
-    def __init__(self, report: Report, columns: int, rows: int, trace: Optional[Trace] = None) -> None:
+    def __init__(self, report: Report, columns: int, rows: int, trace: Optional[Trace] = None, painted: Optional[Painted] = None) -> None:
+        self.painted = painted
         self.map, self.backed, self.in_spans, self.spans, self.cycles, self.misses, self.kinds = [], [], [], [], [], [], set()
         self.kept_bytes = defaultdict(int)
         self.sweeps = defaultdict(list)
@@ -163,6 +153,9 @@ class Course:
                 for cycle in range(self.cycle + 1, line.cycle + 1):
                     self.begin(cycle)
                 self.pages.go_on(line)
+                if self.painted and isinstance(line, MAKING_LINES):
+                    colour = FIRST_FUNCTION + self.painted.of_line.get(self.pages.lines - 1, len(FUNCTION_COLOURS) - 1)
+                    self.pages.kinds[line.page : line.page + line.pages] = bytes([colour]) * line.pages
                 self.live(line, number)
                 if isinstance(line, Miss):
                     self.misses.append(number)
@@ -189,7 +182,7 @@ class Course:
         for number in range(columns):
             begin, end = number * count // columns, (number + 1) * count // columns
             part = self.found_kinds[begin:end]
-            in_spans = sum(part.count(kind) for kind in SPAN_KINDS)
+            in_spans = sum(part.count(kind) for kind in SHOWN_SPANS)
             yield in_spans / len(part), part.count(FREE) / len(part), sum(kept[begin:end]) / len(part)
 
 

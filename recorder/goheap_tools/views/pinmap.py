@@ -1,35 +1,35 @@
 """Draws the page map of a mark end: each kept span shaded by how full it is, with who keeps it where the pointer stands."""
 
 from collections import Counter
-from xml.sax.saxutils import escape
 from typing import Any, Dict, Iterator, List, Tuple
 
 from goheap_tools.heap.classes import BASE, PAGE, SLOTS
+from goheap_tools.heap.pages import CACHED, HELD, LENT, UNTOUCHED
+from goheap_tools.heap.pages import FREE as FREE_PAGE
 from goheap_tools.heap.pinning import FREE, STEPS, Groups, Names, Pins
+from goheap_tools.views.painted import Holding
+from goheap_tools.views.sheet import FUNCTION_COLOURS, KINDS, MEBIBYTE, SHADES, escaped, function_rows, group, opened
 
-# The shades of the steps, from the emptiest to the fullest.
-SHADES = ("#b2182b", "#d6604d", "#f4a582", "#fddbc7", "#d1e5f0", "#92c5de", "#4393c3", "#2166ac")
-FREE_COLOUR, UNBACKED_COLOUR = "#c9c9c9", "#ffffff"
-LEFT, TOP, WIDTH, LEGEND, ROW = 90, 78, 896, 280, 19
-COLUMNS = (32, 64, 128, 256)
+UNBACKED_COLOUR = KINDS[UNTOUCHED][0]
+LEFT, TOP, WIDTH, LEGEND, ROW = 90, 78, 896, 300, 19
+# Pages in a row, and how high the map may be.
+COLUMNS, HEIGHT = range(16, 257, 4), 616
 MOST_STACKS = 12  # below the map
 MOST_HOLDERS = 4  # of a span, where the pointer stands
-
-
-def plain(text: str) -> str:
-    """Text for XML, without characters that XML has not."""
-    return escape("".join(one if one.isprintable() or one == "\n" else "?" for one in text))
+MOST_NAME = 30  # letters of a function's name in the legend
+# The runs that are no span's, as the map of the journal has them too.
+OTHER_KINDS = (HELD, CACHED, LENT)
 
 
 def text(x: float, y: float, what: str, anchor: str = "start", size: int = 12) -> str:
-    return f'<text x="{x:.1f}" y="{y:.1f}" font-size="{size}" text-anchor="{anchor}">{plain(what)}</text>'
+    return f'<text x="{x:.1f}" y="{y:.1f}" font-size="{size}" text-anchor="{anchor}">{escaped(what)}</text>'
 
 
 class Grid:
     """Where pages stand: in rows, from left to right and down."""
 
     def __init__(self, pages: int) -> None:
-        self.columns = next((columns for columns in COLUMNS if pages <= columns * columns // 2), COLUMNS[-1])
+        self.columns = next((columns for columns in COLUMNS if -(-pages // columns) * WIDTH <= columns * HEIGHT), COLUMNS[-1])
         self.cell = WIDTH / self.columns
         self.rows = -(-pages // self.columns) or 1
         self.height = self.rows * self.cell
@@ -80,31 +80,44 @@ def told(pins: Pins, names: Names, span: int) -> str:
     return "\n".join(lines)
 
 
-def legend(pins: Pins, shades: List[int]) -> Iterator[str]:
-    x, y = LEFT + WIDTH + 24, TOP + 12
-    yield text(x, y, "kept spans, by live slots")
+def key(x: float, y: float, colour: str, what: str) -> str:
+    return f'<rect x="{x}" y="{y - 11}" width="14" height="14" fill="{colour}" stroke="#999"/>' + text(x + 20, y, what)
+
+
+def shades_told(shades: List[int]) -> List[Tuple[str, str]]:
+    """The colours of the spans by how full they are, with what the legend says."""
     counts = Counter(shades)
-    for step, colour in enumerate(SHADES):
+    return [(colour, f"{100 * step / STEPS:g} to {100 * (step + 1) / STEPS:g} %: {counts[step]:,}") for step, colour in enumerate(SHADES)]
+
+
+def functions_told(holding: Holding) -> List[Tuple[str, str]]:
+    """The same of spans by the function that holds most of them."""
+    counts = Counter(holding.of_span)
+    return [(colour, f"{name if len(name) <= MOST_NAME else '..' + name[2 - MOST_NAME :]}: {counts[at]:,}") for at, (colour, name) in enumerate(function_rows(holding.names)) if counts[at]]
+
+
+def legend(pins: Pins, title: str, rows: List[Tuple[str, str]]) -> Iterator[str]:
+    x, y = LEFT + WIDTH + 24, TOP + 12
+    yield text(x, y, title)
+    others = [KINDS[kind] for kind in OTHER_KINDS if kind in pins.kinds]
+    for colour, name in (*rows, KINDS[FREE_PAGE], *others, (UNBACKED_COLOUR, "free, no memory behind it")):
         y += ROW + 2
-        share = f"{100 * step / STEPS:g} to {100 * (step + 1) / STEPS:g} %"
-        yield f'<rect x="{x}" y="{y - 11}" width="14" height="14" fill="{colour}" stroke="#999"/>'
-        yield text(x + 20, y, f"{share}: {counts[step]:,}")
-    for colour, name in ((FREE_COLOUR, "free, backed"), (UNBACKED_COLOUR, "free, no memory behind it")):
-        y += ROW + 2
-        yield f'<rect x="{x}" y="{y - 11}" width="14" height="14" fill="{colour}" stroke="#999"/>'
-        yield text(x + 20, y, name)
+        yield key(x, y, "var(--paper)" if colour == UNBACKED_COLOUR else colour, name)
     y += ROW + 8
     backed = pins.backed * PAGE
     for name, size in (*pins.sums().items(), ("backed", backed)):
         y += ROW
-        yield text(x, y, name) + text(x + 190, y, f"{size:,}", "end") + text(x + 245, y, f"{100 * size / (backed or 1):.1f} %", "end")
+        yield text(x, y, name) + text(x + 205, y, f"{size:,}", "end") + text(x + 262, y, f"{100 * size / (backed or 1):.1f} %", "end")
 
 
 def rows_of(grid: Grid) -> Iterator[str]:
-    """The number of the first page of some rows."""
+    """Where some rows begin, in MiB, and where the last one ends."""
     every = max(1, round(28 / grid.cell))
-    for row in range(0, grid.rows, every):
-        yield text(LEFT - 7, TOP + row * grid.cell + min(grid.cell, 12), f"{row * grid.columns:,}", "end", 11)
+    for row in range(0, max(grid.rows - every // 2, 1), every):
+        yield text(LEFT - 7, TOP + row * grid.cell + min(grid.cell, 12), f"{row * grid.columns * PAGE / MEBIBYTE:,.3g}", "end", 11)
+    if grid.height > 40:
+        yield text(LEFT - 7, TOP + grid.height + 12, f"{grid.rows * grid.columns * PAGE / MEBIBYTE:,.3g}", "end", 11)
+    yield text(LEFT - 7, TOP - 12, "MiB", "end", 11)
 
 
 def stack_rows(groups: Groups, order: List[int], names: Names, y: float) -> Iterator[str]:
@@ -118,39 +131,46 @@ def stack_rows(groups: Groups, order: List[int], names: Names, y: float) -> Iter
         y += ROW
         cells = zip(columns, (groups.pinned[at], groups.spans[at], groups.own[at], groups.live[at]))
         number = groups.first[at]
-        yield (f'<g id="k{place}"><rect x="{LEFT}" y="{y - 14}" width="{WIDTH + LEGEND}" height="{ROW}" fill="#fff"/>'
+        yield (f'<g id="k{place}"><rect x="{LEFT}" y="{y - 14}" width="{WIDTH + LEGEND}" height="{ROW}" fill="var(--paper)"/>'
                + "".join(text(x, y, f"{count:,}", "end") for (x, _), count in cells) + text(LEFT + 340, y, f"{number} {names.shown(number)[0]}") + "</g>")
 
 
-def style(count: int) -> Iterator[str]:
-    yield "<style>#map path:hover{stroke:#000;stroke-width:2}"
-    yield "".join(f"#s{step}{{fill:{colour}}}" for step, colour in enumerate(SHADES))
-    yield "g[id^=k]:hover rect{fill:#ffffd0}"
-    yield "".join(f"#k{place}:hover~#map .k{place}{{stroke:#000;stroke-width:2}}" for place in range(count)) + "</style>"
+def style(count: int, colours: List[str]) -> str:
+    return ("#map path:hover{stroke:var(--ink);stroke-width:2}" + "".join(f"#s{step}{{fill:{colour}}}" for step, colour in enumerate(colours)) + "g[id^=k]:hover rect{fill:var(--point)!important}"
+            + "".join(f"#k{place}:hover~#map .k{place}{{stroke:var(--ink);stroke-width:2}}" for place in range(count)))  # fmt: skip
 
 
-def draw(pins: Pins, names: Names, title: str) -> Iterator[str]:
+def ground(pins: Pins, grid: Grid) -> Iterator[str]:
+    """What lies behind the spans: the region, what is free and backed, and what is in no span and not free."""
+    yield f'<path d="{grid.path(0, len(pins.region))}" class="paper" stroke="#999"/>'
+    free = "".join(grid.path(*run) for run in runs_of(pins.region, FREE))
+    yield f'<path d="{free}" fill="{KINDS[FREE_PAGE][0]}"/>'
+    for kind in OTHER_KINDS:
+        if runs := "".join(grid.path(*run) for run in runs_of(pins.kinds, bytes([kind]))):
+            yield f'<path d="{runs}" fill="{KINDS[kind][0]}"><title>{KINDS[kind][1]}</title></path>'
+
+
+def draw(pins: Pins, names: Names, title: str, by_function: bool = False) -> Iterator[str]:
     grid, groups = Grid(len(pins.region)), names.stacks(pins)
     order = [at for at in groups.order(MOST_STACKS) if groups.pinned[at]]
     places = {groups.first[at]: place for place, at in enumerate(order)}
     lowest = {names.same_frames(groups.first[at]): groups.first[at] for at in order}
-    shades = [shade_of(pins, span) for span in range(len(pins.first))]
-    below = TOP + max(grid.height, 400) + 40
-    width, height = LEFT + WIDTH + LEGEND, below + ROW * (len(order) + 1)
-    yield f'<svg xmlns="http://www.w3.org/2000/svg" viewBox="0 0 {width} {height:g}" width="{width}" style="max-width:100%;height:auto" font-family="sans-serif">'
-    yield from style(len(order))
-    yield '<rect width="100%" height="100%" fill="#fff"/>'
+    holding = Holding(pins, names) if by_function else None
+    colours = list(FUNCTION_COLOURS if holding else SHADES)
+    shades = holding.of_span if holding else [shade_of(pins, span) for span in range(len(pins.first))]
+    below = TOP + max(grid.height, 430) + 40
+    told = f"Mark end {pins.mark_end} of {pins.mark_ends}: {pins.backed:,} pages backed, {sum(pins.pages):,} of them in {len(pins.first):,} spans kept."
+    yield opened(LEFT + WIDTH + LEGEND, below + ROW * (len(order) + 1), f"{title}. {told}", style(len(order), colours))
     yield text(LEFT, 24, title, size=16)
-    yield text(LEFT, 45, f"Mark end {pins.mark_end} of {pins.mark_ends}: {pins.backed:,} pages backed, {sum(pins.pages):,} of them in {len(pins.first):,} spans kept.")
+    yield text(LEFT, 45, told)
     yield text(LEFT, TOP - 12, f"pages of 8 KiB by number, {grid.columns} a row, from left to right and down; the pointer on a span tells its class, its objects and who holds it")
-    yield from legend(pins, shades)
+    what = ("kept spans, by who holds most of them", functions_told(holding)) if holding else ("kept spans, by live slots", shades_told(shades))
+    yield from group("what the colours mean, and the parts of the backed bytes", legend(pins, *what), "group")
     yield from rows_of(grid)
     yield from stack_rows(groups, order, names, below)
-    free = "".join(grid.path(*run) for run in runs_of(pins.region, FREE))
-    yield f'<path d="{grid.path(0, len(pins.region))}" fill="{UNBACKED_COLOUR}" stroke="#999"/>'
-    yield f'<path d="{free}" fill="{FREE_COLOUR}"/>'
-    yield f'<g id="map" stroke="#fff" stroke-width="{min(1, grid.cell / 10):g}">'
-    for step in range(STEPS):
+    yield from ground(pins, grid)
+    yield f'<g id="map" role="group" aria-label="kept spans" stroke="var(--paper)" stroke-width="{min(1, grid.cell / 10):g}">'
+    for step in range(len(colours)):
         yield f'<g id="s{step}">'
         for span, shade in enumerate(shades):
             if shade == step:
@@ -164,4 +184,4 @@ def drawn(pins: Pins, names: Names, span: int, grid: Grid, places: Dict[int, int
     keys = {names.same_frames(stack) for stack in pins.stacks_of(span)}
     place = places.get(lowest.get(keys.pop(), -1)) if len(keys) == 1 else None
     mark = f' class="k{place}"' if place is not None else ""
-    return f'<path d="{grid.path(pins.first[span], pins.pages[span])}"{mark}><title>{plain(told(pins, names, span))}</title></path>'
+    return f'<path d="{grid.path(pins.first[span], pins.pages[span])}"{mark}><title>{escaped(told(pins, names, span))}</title></path>'
