@@ -31,6 +31,8 @@ from goheap_tools.views.tables import Buckets, Lines, Table, Types
 
 # Of the objects behind the last mark end, of which nothing tells whether they stay alive, a word is said where they are this part.
 MANY_BEHIND = 0.05
+# Small and large objects are mixed where each have this part of the bytes that are estimated.
+MIXED = 0.05
 NO_MARK_END = "run the program with GOGC=20, or call runtime.GC() in it, twice at the end, and record it again"
 def expression(text: str) -> Pattern[str]:
     """An argument's type: a regular expression."""
@@ -175,6 +177,18 @@ def tell_misses(report: Report, trace: Optional[Trace]) -> None:
             " (--trace without a report counts them too)")  # fmt: skip
 
 
+def tell_mixed(mark_ends: List[MarkEnd], rate: int) -> None:
+    """Says that an estimate is too low for small objects beside large ones. A large one is sampled nearly always, and begins a new distance; here
+    distances are uniform, so that the small ones behind it are sampled less often than by themselves."""
+    estimated: Dict[bool, float] = {False: 0.0, True: 0.0}
+    last = {(bucket.stack, bucket.slot): bucket for _, buckets in mark_ends for bucket in buckets}
+    for bucket in last.values():
+        estimated[2 * bucket.slot >= rate] += bucket.allocs * bucket.slot * factor(bucket.slot, rate)
+    total = sum(estimated.values())
+    if rate > 1 and total and min(estimated[False], estimated[True]) > MIXED * total:
+        say(f"small objects stand beside some of the rate's size ({rate} bytes) and more: their estimate may be much too low, by distances that are uniform here (docs/recording.md); record at rate 1")
+
+
 def tell_behind(behind: Optional[int], objects: Optional[int]) -> None:
     """Says how many objects came behind the last mark end, of which nothing tells whether they stay alive."""
     if behind and objects and behind > MANY_BEHIND * objects:
@@ -224,9 +238,11 @@ def main(words: List[str]) -> int:
         mark_ends = buckets_of_trace(trace, report.addresses if report else None) if trace else buckets_of_report(report or Report())
         choice = Choice(stacks, options)
         stacks = choice.stripped()
-        profile = Profile(up_to(mark_ends, options, options.scale), options.table.key(stacks), options.scale, choice.shows)
+        ends = up_to(mark_ends, options, options.scale)
+        profile = Profile(ends, options.table.key(stacks), options.scale, choice.shows)
         if not profile.all.allocs:
             raise tool.Unusable(no_profile(stacks, trace, options))
+        tell_mixed(ends, options.scale)
         if report:
             tell_misses(report, trace)
         if not options.place:

@@ -130,6 +130,15 @@ class Leaks(Folder):
             rows("72B 64.3% 64.3% 9 11 2 8 0B 1/3 8 (no frames)\n32B 28.6% 92.9% 4 4 0 8 24B 3/3 7 (no frames)\n8B 7.1% 100.0% 1 1 0 8 8B 1/3 9 (no frames)"),
         )
 
+    def test_small_objects_beside_large_ones_are_told(self):
+        """At a rate of 1000 bytes: objects of 1920 bytes, and of 192."""
+        mixed = "o 0 zero\np 1 7 192 30 2\np 1 8 1920 30 2\nend\n"
+        status, _, said = run("leaks", "-", "--scale", "1000", given=mixed)
+        self.assertEqual(status, 0)
+        self.assertEqual(said, "leaks: small objects stand beside some of the rate's size (1000 bytes) and more: their estimate may be much too low, by distances that are uniform here (docs/recording.md); record at rate 1\n")
+        for given, scale in ((mixed, "1"), (mixed.replace("1920", "208"), "1000"), (mixed.replace("192 ", "2048 "), "1000")):
+            self.assertEqual(run("leaks", "-", "--scale", scale, given=given)[2], "")
+
     def test_sampled_counts_are_scaled(self):
         # At a rate of 24 bytes an object of 24 bytes is sampled with probability 1 - 1/e, so 3 of them stand for 4.75.
         self.assertEqual(

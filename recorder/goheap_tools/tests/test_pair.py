@@ -52,6 +52,16 @@ class RealRuns(test_inside_runs.Runs):
                         self.assertGreater(pair.last, 0)
                         self.assertTrue(any(line.startswith("s ") and not line.endswith(" 0\n") for line in text.splitlines(True)), "nothing was freed")
 
+    def test_every_size_up_to_40000_with_and_without_pointers(self):
+        version = max(toolchains())
+        path = self.path("sizes")
+        self.run_program([recorded(version, "heaps"), "sizes"], path, processors=1)
+        trace, text, _ = texts(path)
+        asked = {letter: {int(size) for size in re.findall(rf"(?m)^a \d+ (\d+) {letter} ", trace)} for letter in "sn"}
+        self.assertEqual(asked["n"] & set(range(1, 40001)), set(range(1, 40001)))
+        self.assertLessEqual(set(range(8, 40001, 8)), asked["s"])
+        self.assertEqual(verdict.verdict(trace, text)[0], "sound")
+
     def test_a_single_change_is_refused(self):
         version = max(toolchains())
         path = self.path("changed")
