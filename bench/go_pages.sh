@@ -13,7 +13,7 @@ from collections import Counter
 from goheap_tools.tests import go_pages, go_tools, verdict
 
 print(verdict.name())
-for version, go in sorted(go_tools.toolchains().items()):
+for version, go in sorted(go_tools.toolchains().items(), reverse=True):
     total = Counter()
     with tempfile.TemporaryDirectory() as folder:
         for region in go_pages.regions(go, folder, int(sys.argv[1])):

@@ -30,6 +30,12 @@ class Word:
         return "TRACE" in self.parts["usage"][0]
 
 
+def read_tools(path: str) -> list[tuple[str, str]]:
+    """The tools under recorder/, each with what it does."""
+    with open(path, encoding="utf-8") as file:
+        return [tuple(line.rstrip().removeprefix("tool ").split(": ", 1)) for line in file if line.startswith("tool ")]
+
+
 def read_words(path: str) -> tuple[list[str], dict[str, str], list[Word]]:
     """What goheap is, what the statuses mean, and the words."""
     about, statuses, words, part = [], {}, [], []
@@ -62,7 +68,7 @@ def tagged(rows: list[tuple[str, str]]) -> list[str]:
     return [line for name, text in rows for line in (".TP", f".B {roff(name)}", roff(text))]
 
 
-def man_page(about: list[str], statuses: dict[str, str], words: list[Word]) -> str:
+def man_page(about: list[str], statuses: dict[str, str], words: list[Word], tools: list[tuple[str, str]]) -> str:
     lines = ['.\\" Made by launcher/pages.py from launcher/words.txt.', ".TH GOHEAP 1", ".SH NAME", f"goheap \\- {roff(about[0])}"]
     lines += [".SH SYNOPSIS"]
     for word in words:
@@ -75,6 +81,7 @@ def man_page(about: list[str], statuses: dict[str, str], words: list[Word]) -> s
         lines += [".TP", ".I Statuses", roff(", ".join(word.parts["statuses"][0].split()))]
         lines += [".TP", ".I Example", f".B {roff(word.parts['example'][0])}"]
     lines += [".SH EXIT STATUS", *tagged(list(statuses.items()))]
+    lines += [".SH TOOLS", roff("Beside the program, in the folder recorder/, or goheap-NAME where they are installed. Each has --help."), *tagged(tools)]
     return "\n".join(lines) + "\n"
 
 
@@ -90,7 +97,12 @@ def bash_case(word: Word, names: str) -> str:
     return f"  {word.name}) options='{options}'{files} ;;"
 
 
-def bash_completion(words: list[Word]) -> str:
+def commands_of(tools: list[tuple[str, str]]) -> str:
+    """What the tools are called by: as installed, and as one types them in goheap's folder."""
+    return " ".join(f"goheap-{name} recorder/{name} ./recorder/{name}" for name, _ in tools)
+
+
+def bash_completion(words: list[Word], tools: list[tuple[str, str]]) -> str:
     names = " ".join(word.name for word in words)
     cases = "\n".join(bash_case(word, names) for word in words)
     return f"""# Completes the words of goheap in bash; `source` it. Made by launcher/pages.py from launcher/words.txt.
@@ -115,6 +127,14 @@ _goheap() {{
   return 0
 }}
 complete -F _goheap goheap ./goheap
+# The options of a tool are those that its --help has.
+_goheap_tool() {{
+  local current=${{COMP_WORDS[COMP_CWORD]}} options=''
+  COMPREPLY=()
+  [[ $current != -* ]] || options=$("${{COMP_WORDS[0]}}" --help 2>/dev/null | grep -o -e '--[a-z][a-z-]*' | sort -u)
+  [ -z "$options" ] || mapfile -t COMPREPLY < <(compgen -W "$options" -- "$current")
+}}
+complete -o default -F _goheap_tool {commands_of(tools)}
 """
 
 
@@ -135,12 +155,14 @@ def zsh_case(word: Word) -> str:
     return f"  {word.name}) _arguments {' '.join(rows) or ': '} ;;"
 
 
-def zsh_completion(words: list[Word]) -> str:
+def zsh_completion(words: list[Word], tools: list[tuple[str, str]]) -> str:
     names = "\n".join(f"    '{quoted(word.name)}:{quoted(word.phrase)}'" for word in words)
     cases = "\n".join(map(zsh_case, words))
-    return f"""#compdef goheap
+    return f"""#compdef goheap {' '.join(f"goheap-{name}" for name, _ in tools)}
 # Completes the words of goheap in zsh, from a folder of $fpath. Made by launcher/pages.py from launcher/words.txt.
 _goheap() {{
+  # The options of a tool are those that its --help has.
+  [[ $service = goheap ]] || {{ _gnu_generic; return }}
   local -a names=(
 {names}
   )
@@ -161,7 +183,8 @@ _goheap "$@"
 def pages() -> dict[str, str]:
     """The texts by the names of their files."""
     about, statuses, words = read_words(f"{HERE}/words.txt")
-    return {"goheap.1": man_page(about, statuses, words), "goheap.bash": bash_completion(words), "_goheap": zsh_completion(words)}
+    tools = read_tools(f"{HERE}/words.txt")
+    return {"goheap.1": man_page(about, statuses, words, tools), "goheap.bash": bash_completion(words, tools), "_goheap": zsh_completion(words, tools)}
 
 
 if __name__ == "__main__":

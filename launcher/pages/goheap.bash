@@ -29,3 +29,11 @@ _goheap() {
   return 0
 }
 complete -F _goheap goheap ./goheap
+# The options of a tool are those that its --help has.
+_goheap_tool() {
+  local current=${COMP_WORDS[COMP_CWORD]} options=''
+  COMPREPLY=()
+  [[ $current != -* ]] || options=$("${COMP_WORDS[0]}" --help 2>/dev/null | grep -o -e '--[a-z][a-z-]*' | sort -u)
+  [ -z "$options" ] || mapfile -t COMPREPLY < <(compgen -W "$options" -- "$current")
+}
+complete -o default -F _goheap_tool goheap-record recorder/record ./recorder/record goheap-facts recorder/facts ./recorder/facts goheap-pair recorder/pair ./recorder/pair goheap-look recorder/look ./recorder/look goheap-leaks recorder/leaks ./recorder/leaks goheap-pins recorder/pins ./recorder/pins goheap-goroutines recorder/goroutines ./recorder/goroutines goheap-picture recorder/picture ./recorder/picture goheap-explain recorder/explain ./recorder/explain goheap-compare recorder/compare ./recorder/compare goheap-pprof recorder/pprof ./recorder/pprof

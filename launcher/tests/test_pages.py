@@ -49,6 +49,17 @@ class Pages(Stage):
         self.assertEqual(self.completed("gen", "leak."), [])
         self.assertEqual(self.completed("help", "h"), ["heap", "help"])
 
+    def test_the_tools_are_told_and_their_options_completed(self):
+        tools = sorted(name for name in os.listdir(f"{ROOT}/recorder") if name not in ("test", "install-go", "install-browser") and os.access(f"{ROOT}/recorder/{name}", os.X_OK) and os.path.isfile(f"{ROOT}/recorder/{name}"))
+        told = [line.split(":")[0].removeprefix("tool ") for line in read(f"{ROOT}/launcher/words.txt").splitlines() if line.startswith("tool ")]
+        self.assertEqual(sorted(told), tools)
+        man = read(f"{PAGES}/goheap.1")
+        for name in tools:
+            self.assertIn(f".B {name}\n", man)
+        script = 'cd "$1" && source "$2" && COMP_WORDS=(recorder/goroutines --f) COMP_CWORD=1 && _goheap_tool && printf "%s\\n" "${COMPREPLY[@]}" && complete -p recorder/goroutines'
+        ran = subprocess.run(["bash", "-c", script, "bash", ROOT, f"{PAGES}/goheap.bash"], capture_output=True, text=True, check=True)
+        self.assertEqual(ran.stdout.splitlines(), ["--frames", "complete -o default -F _goheap_tool recorder/goroutines"])
+
     @unittest.skipUnless(shutil.which("zsh"), "there is no zsh here")
     def test_zsh_reads_its_completion(self):
         subprocess.run(["zsh", "-n", f"{PAGES}/_goheap"], check=True)
