@@ -13,7 +13,7 @@ CRATES = {path.name for path in (ROOT / "crates").iterdir() if path.is_dir()}
 # A word of the specifications, with its marks, as `left'`, `is-apart` and `◌+◌`.
 WORD = re.compile(r"[^\W\d][\w'-]*")
 ITEM = re.compile(r"^(?:(?:abbrev|unfoldable) pub|pub record|pub data) ([^\s:({]+)")
-DECLARED = re.compile(r"^(?:pub(?:\(crate\))? )?(?:struct|enum|const) (\w+)")
+DECLARED = re.compile(r"^(?:pub(?:\(crate\))? )?(?:struct|enum|const|trait) (\w+)")
 USE = re.compile(r"^(?:ghost |pub |unfoldable pub )?use Rattle\.(\w+)\.specs\.([\w.]+)\.\{([^}]*)\};?$")
 
 
@@ -103,6 +103,30 @@ def items_of(file: str) -> dict[str, tuple[int, int]]:
     return found
 
 
+@lru_cache(maxsize=None)
+def declarations_of(crate: str) -> dict[str, Place]:
+    """The types that a crate's sources declare, by name; of two of one name none, which no field of a quoted type has."""
+    found: dict[str, list[Place]] = {}
+    for path in sorted((ROOT / "crates" / crate / "src").rglob("*.rt")):
+        file = str(path.relative_to(ROOT))
+        for name in items_of(file):
+            found.setdefault(name, []).append(Place(file, name))
+    return {name: places[0] for name, places in found.items() if len(places) == 1}
+
+
+@lru_cache(maxsize=None)
+def types_in(file: str) -> dict[str, Place]:
+    """The types of this repository that a source can name without a path."""
+    crate, text = file.split("/")[1], "\n".join(lines_of(file))
+    found: dict[str, Place] = {}
+    for path, many, one in re.findall(r"^(?:pub )?use ([\w:]+)::(?:\{([^}]*)\}|(\w+));", text, re.M):
+        first = path.split("::")[0]
+        known = declarations_of(crate) if first in ("crate", "self", "super") else declarations_of(first) if first in CRATES else {}
+        found.update({word.strip(): known[word.strip()] for word in (many or one).split(",") if word.strip() in known})
+    found.update({name: Place(file, name) for name in items_of(file)})
+    return found
+
+
 def without_comments(text: str, is_source: bool) -> str:
     return re.sub(r"//.*" if is_source else r"--.*", "", text)
 
@@ -121,6 +145,8 @@ def quote_of(place: Place) -> Quote:
     text = "\n".join(line for line in lines_of(place.file)[first:last] if not line.startswith("#["))
     quote = Quote(place, first + 1, text)
     if is_source:
+        words = set(WORD.findall(without_comments(text, True))) - {place.name}
+        quote.names = {known[word] for known in (types_in(place.file), imports_of(place.file)) for word in words if word in known}
         return quote
     imports = imports_of(place.file)
     for word in WORD.findall(without_comments(text, is_source)):
@@ -146,5 +172,6 @@ def call_of(file: str, function: str) -> Quote:
     quote = Quote(Place(file, function), first + 1, text)
     imports = imports_of(file)
     clauses = without_comments("\n".join(lines[at:last]), True)
-    quote.names = {imports[word] for word in WORD.findall(clauses) if word in imports}
+    types = types_in(file)
+    quote.names = {known[word] for known in (types, imports) for word in WORD.findall(clauses) if word in known}
     return quote
